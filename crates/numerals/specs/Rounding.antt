@@ -1,0 +1,54 @@
+-- "rounded to five significant digits, half upwards" (01, "Settings"; "Readings, switching, streaming").
+use Prim.Native.Nat.{ℕ, _+_, _*_, _/_, _^_}
+use mathlib.Core.Bool.{Bool, true, false, cond, _&&_}
+use lib.Dec.{leb, eqb}
+use lib.IntN.{ℤ, pos, negsuc, negℤ, natAbs, _+ℤ_, _-ℤ_}
+use Rattle.numerals.specs.Digits.{climb}
+use Rattle.numerals.specs.Numbers.{isFive}
+use Rattle.numerals.specs.declared.threshold.Threshold.{Threshold}
+use Rattle.numerals.specs.declared.value.Value.{Value}
+use Rattle.numerals.specs.declared.value.Ratio.{Ratio}
+
+-- n / d to the nearest whole number, half upwards
+abbrev pub nearest : ℕ → ℕ → ℕ
+nearest n d = (2 * n + d) / (2 * d)
+
+-- how many tens n / d is moved up, or down, to have five digits before its point
+abbrev pub up : ℕ → ℕ → ℕ
+up n d = climb n (d * 10000)
+
+abbrev pub down : ℕ → ℕ → ℕ
+down n d = climb d (n / 100000 + 1)
+
+-- the five digits of n / d; 99999.5 and above becomes 100000
+unfoldable pub five : ℕ → ℕ → ℕ
+five n d = nearest (n * 10 ^ up n d) (d * 10 ^ down n d)
+
+-- the power of ten that those digits stand for, for n / d times ten to the x
+unfoldable pub power : ℕ → ℕ → ℤ → ℤ
+power n d x = x +ℤ pos (4 + down n d) -ℤ pos (up n d)
+
+-- n / d times ten to the x, rounded to five significant digits
+unfoldable pub rounded : ℕ → ℕ → ℤ → Threshold
+rounded n d x =
+    cond (eqb (five n d) 100000) (record { mantissa = 10000; exponent = power n d x +ℤ pos 1 })
+    (record { mantissa = five n d; exponent = power n d x })
+
+-- a magnitude with the sign of z
+abbrev pub signed : ℤ → ℕ → ℤ
+signed (pos n) m = pos m
+signed (negsuc n) m = negℤ (pos m)
+
+-- a ratio that is carried exactly: both parts from 1 to 10^12
+abbrev pub isUsable : Ratio → Bool
+isUsable r = (leb 1 (r .over) && leb (r .over) 1000000000000) && (leb 1 (r .under) && leb (r .under) 1000000000000)
+
+-- the magnitude of v times r, rounded once; v.mantissa stands for d.dddd, so its power is four lower
+abbrev pub product : Value → Ratio → Threshold
+product v r = rounded (natAbs (v .mantissa) * r .over) (r .under) (v .exponent -ℤ pos 4)
+
+-- v times r with its sign kept; zero, and what is no number or no ratio, stays as it is
+unfoldable pub scaledBy : Value → Ratio → Value
+scaledBy v r =
+    cond (isFive v && isUsable r) (record { mantissa = signed (v .mantissa) (product v r .mantissa); exponent = product v r .exponent })
+    v

@@ -1,0 +1,186 @@
+// Thresholds: their limits, and how they are read.
+ghost use mathlib.Core.Path.{_≡_};
+ghost use mathlib.Core.List.{_++_};
+ghost use Prim.Native.Nat.{_≤_, _<_, _+_, _-_};
+ghost use lib.ListN.{length, drop, replicate};
+ghost use lib.IntN.{natAbs};
+ghost use lib.Seq.{paste};
+ghost use Rattle.numerals.specs.Digits.{part, lead, rest};
+ghost use Rattle.numerals.specs.Whole.{numberOf};
+ghost use Rattle.numerals.specs.Numbers.{withinStops};
+ghost use Rattle.numerals.specs.Threshold.{withSign, signedPower, powerOf, concluded, judged, pointed, thresholdOf};
+use crate::digits::is_at;
+use crate::digits::part;
+use crate::digits::run;
+use crate::digits::value;
+use crate::rounding::rounded;
+use crate::whole::Numeral;
+use crate::whole::number;
+
+// d.dddd times a power of ten, its digits without the point.
+pub struct Threshold {
+    pub mantissa: u32,
+    pub exponent: i32,
+}
+
+pub enum ThresholdNumeral {
+    Within(Threshold),
+    Malformed,
+    OutOfRange,
+}
+
+// The power of ten that a threshold ends with.
+enum Power {
+    Ten(i32),
+    NoPower,
+}
+
+impl Threshold {
+    pub const LEAST_DIGITS: u32 = 10000;
+
+    pub const MOST_DIGITS: u32 = 99999;
+
+    pub const LEAST_EXPONENT: i32 = -20;
+
+    pub const MOST_EXPONENT: i32 = 20;
+
+    // Whether it lies within the end stops.
+    pub fn is_within(self) -> bool
+        ensures { λ r. ⌜ r ≡ withinStops self ⌝ }
+    {
+        let m = self.mantissa;
+        let e = self.exponent;
+        let digits = (Threshold::LEAST_DIGITS <= m) & (m <= Threshold::MOST_DIGITS);
+        let stops = (Threshold::LEAST_EXPONENT <= e) & (e <= Threshold::MOST_EXPONENT);
+        digits & stops
+    }
+}
+
+// The digits from `at` on as a power of ten.
+fn power_of(s: &[u8], at: usize, minus: bool) -> Power
+    requires { ⌜ at ≤ length (now s) ⌝ }
+    ensures { λ r. ⌜ r ≡ withSign minus (numberOf 2 (drop at (now (s .entry)))) ⌝ }
+{
+    let t = number(s, at, 2);
+    match t {
+        Numeral::Malformed => Power::NoPower,
+        Numeral::Number(n) => {
+            if minus {
+                Power::Ten(-(n as i32))
+            } else {
+                Power::Ten(n as i32)
+            }
+        }
+    }
+}
+
+fn signed_power(s: &[u8], at: usize) -> Power
+    requires { ⌜ at ≤ length (now s) ⌝ }
+    ensures { λ r. ⌜ r ≡ signedPower (drop at (now (s .entry))) ⌝ }
+{
+    if is_at(s, at, b'-') {
+        return power_of(s, at + 1, true);
+    }
+    if is_at(s, at, b'+') {
+        return power_of(s, at + 1, false);
+    }
+    power_of(s, at, false)
+}
+
+// What stands behind the digits: nothing, or E and a power.
+fn power_at(s: &[u8], at: usize) -> Power
+    requires { ⌜ at ≤ length (now s) ⌝ }
+    ensures { λ r. ⌜ r ≡ powerOf (drop at (now (s .entry))) ⌝ }
+{
+    if at == s.len() {
+        return Power::Ten(0);
+    }
+    if is_at(s, at, b'E') {
+        return signed_power(s, at + 1);
+    }
+    Power::NoPower
+}
+
+// d with s from a up to e written over it from k on.
+fn copied(d: [u8; 12], k: usize, s: &[u8], a: usize, e: usize) -> [u8; 12]
+    requires { ⌜ (a ≤ e) × (e ≤ length (now s)) × (k + (e - a) ≤ 12) ⌝ }
+    ensures { λ r. ⌜ r ≡ paste d k (drop a (now (s .entry))) (e - a) ⌝ }
+{
+    let mut r = d;
+    let mut i: usize = 0;
+    let n = e - a;
+    while i < n {
+        r[k + i] = s[a + i];
+        i += 1;
+    }
+    r
+}
+
+// The number n times ten to the x, rounded and held to the end stops.
+fn conclude(n: u64, x: i32) -> ThresholdNumeral
+    requires { ⌜ (n ≤ 23000000000000) × (natAbs x ≤ 1000) ⌝ }
+    ensures { λ r. ⌜ r ≡ concluded n x ⌝ }
+{
+    if n == 0 {
+        return ThresholdNumeral::OutOfRange;
+    }
+    let t = rounded(n, 1, x);
+    if t.is_within() {
+        return ThresholdNumeral::Within(t);
+    }
+    ThresholdNumeral::OutOfRange
+}
+
+// The digits from a up to p, those from b up to q behind the point, and what follows q.
+fn judge(s: &[u8], a: usize, p: usize, b: usize, q: usize) -> ThresholdNumeral
+    requires { ⌜ (a ≤ p) × (p ≤ b) × (b ≤ q) × (q ≤ length (now s)) ⌝ }
+    ensures { λ r. ⌜ r ≡ judged (part a p (now (s .entry))) (part b q (now (s .entry))) (drop q (now (s .entry))) ⌝ }
+{
+    let w = p - a;
+    let f = q - b;
+    let n = w + f;
+    if n < 1 {
+        return ThresholdNumeral::Malformed;
+    }
+    if 12 < n {
+        return ThresholdNumeral::Malformed;
+    }
+    let t = power_at(s, q);
+    match t {
+        Power::NoPower => ThresholdNumeral::Malformed,
+        Power::Ten(e) => {
+            let zeros = [0u8; 12];
+            let whole = copied(zeros, 0, s, a, p);
+            let digits = copied(whole, w, s, b, q);
+            conclude(value(&digits, 0, n), e - (f as i32))
+        }
+    }
+}
+
+// The digits from a on, with or without a point.
+fn digits_from(s: &[u8], a: usize) -> ThresholdNumeral
+    requires { ⌜ a ≤ length (now s) ⌝ }
+    ensures { λ r. ⌜ r ≡ pointed (lead (drop a (now (s .entry)))) (rest (drop a (now (s .entry)))) ⌝ }
+{
+    let p = run(s, a);
+    if is_at(s, p, b'.') {
+        let q = run(s, p + 1);
+        return judge(s, a, p, p + 1, q);
+    }
+    judge(s, a, p, p, p)
+}
+
+fn threshold_in(s: &[u8]) -> ThresholdNumeral
+    ensures { λ r. ⌜ r ≡ thresholdOf (now (s .entry)) ⌝ }
+{
+    if is_at(s, 0, b'+') {
+        return digits_from(s, 1);
+    }
+    digits_from(s, 0)
+}
+
+pub fn read_threshold(s: &[u8], start: usize, end: usize) -> ThresholdNumeral
+    ensures { λ r. ⌜ r ≡ thresholdOf (part start end (now (s .entry))) ⌝ }
+{
+    threshold_in(part(s, start, end))
+}

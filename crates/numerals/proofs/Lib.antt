@@ -1,2 +1,3 @@
 pub mod Cases
 pub mod Signed
+pub mod Rows

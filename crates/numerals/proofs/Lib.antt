@@ -1,3 +1,5 @@
 pub mod Cases
 pub mod Signed
+pub mod Runs
+pub mod Tens
 pub mod Rows

@@ -1,41 +1,56 @@
+-- `digits::climb`: the tens counted, and those still to count, are those of the definition.
+use Prim.Native.Nat.{ℕ, _≤_, _+_, _-_, _*_, _^_}
+use mathlib.Core.Path.{_≡_, refl, sym, ap, _∙_}
+use native.Mathlib.Nat.{mul-one}
+use Rattle.numerals.specs.Digits.{climbWithin, climb}
+use Rattle.numerals.specs.declared.digits.Climbed.{Climbed}
+use Rattle.numerals.proofs.Tens.{climb-more, climb-done, climb-end, ten-more}
+use borrow.Author.Needs.{needs}
+use native.Mathlib.Omega.{arith}
 use Rattle.numerals.proofs.digits.climb.Statement.{statement}
 use Rattle.numerals.proofs.digits.climb.Tie as tie
-use Rattle.numerals.proofs.digits.climb.Reads as reads
-use Rattle.numerals.proofs.digits.climb.Lts as lts
 
 abbrev Inv-loop : tie.InvT-loop
-Inv-loop n to size₀ tens₀ size tens = ?
+Inv-loop n to size₀ tens₀ size tens =
+    (tens ≤ 18) × (size ≡ n * 10 ^ tens) × (tens + climbWithin (18 - tens) size to ≡ climb n to)
 
 abbrev μ-loop : tie.MeasureT-loop
-μ-loop n to size₀ tens₀ size tens = ?
+μ-loop n to size₀ tens₀ size tens = 18 - tens
 
--- src/digits.rt:82:5
 loop-holds : tie.Need-loop-holds Inv-loop μ-loop
-loop-holds c = ?
+loop-holds c = (search needs, sym (mul-one (c .args .n)), omega arith)
 
--- src/digits.rt:84:13
 returns : tie.Need-returns Inv-loop μ-loop
-returns c = ?
+returns c =
+    let a = c .before .before .before .args in
+    let l = c .before .before .loop in
+    let k : l .tens ≡ climb (a .n) (a .to) = omega (arith, climb-done (l .tens) (l .size) (a .to) (omega arith) (c .if1 .taken)) in
+    rw (l .inv .1, k)
 
--- src/digits.rt:86:16
 mul-size : tie.Need-mul-size Inv-loop μ-loop
-mul-size c = ?
+mul-size c = search needs
 
--- src/digits.rt:87:9
 add-tens : tie.Need-add-tens Inv-loop μ-loop
-add-tens c = ?
+add-tens c = search needs
 
--- src/digits.rt:82:5
 loop-less : tie.Need-loop-less Inv-loop μ-loop
-loop-less c = ?
+loop-less c = search needs
 
--- src/digits.rt:82:5
 loop-again : tie.Need-loop-again Inv-loop μ-loop
-loop-again c = ?
+loop-again c =
+    let a = c .before .before .before .args in
+    let l = c .before .before .loop in (
+      search needs,
+      rw (l .inv .1) (ten-more (a .n) (l .tens)),
+      omega (arith, climb-more (l .tens) (l .size) (a .to) (omega arith) (c .if1 .left)),
+    )
 
--- src/digits.rt:76:1
 returns-2 : tie.Need-returns-2 Inv-loop μ-loop
-returns-2 c = ?
+returns-2 c =
+    let a = c .before .before .args in
+    let l = c .before .loop in
+    let k : l .tens ≡ climb (a .n) (a .to) = omega (arith, climb-end (l .tens) (l .size) (a .to) (omega arith)) in
+    rw (l .inv .1, k)
 
 pub climb-spec : {M : Type 1} → statement M
 climb-spec =

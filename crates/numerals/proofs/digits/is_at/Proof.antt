@@ -1,20 +1,19 @@
+-- `digits::is_at`: the byte at the place, or no byte there.
+use mathlib.Core.Path.{sym}
+use Rattle.numerals.proofs.Runs.{head-at, head-out}
 use borrow.Author.Needs.{needs}
+use native.Mathlib.Omega.{arith}
 use Rattle.numerals.proofs.digits.is_at.Statement.{statement}
 use Rattle.numerals.proofs.digits.is_at.Tie as tie
-use Rattle.numerals.proofs.digits.is_at.Reads as reads
-use Rattle.numerals.proofs.digits.is_at.Lts as lts
 
--- src/digits.rt:27:22
 shared-slice-read-result : tie.Need-shared-slice-read-result
 shared-slice-read-result c = search needs
 
--- src/digits.rt:24:1
 returns : tie.Need-returns
-returns c = ?
+returns c = let a = c .before .before .args in sym (head-at (a .i) (a .s .now) (a .c) (omega arith))
 
--- src/digits.rt:24:1
 returns-2 : tie.Need-returns-2
-returns-2 c = ?
+returns-2 c = let a = c .before .args in sym (head-out (a .i) (a .s .now) (a .c) (omega arith))
 
 pub is-at-spec : {M : Type 1} → statement M
 is-at-spec = tie.close (tie.spec shared-slice-read-result returns returns-2)

@@ -6,7 +6,7 @@ use mathlib.Core.Path.{_≡_, refl}
 use mathlib.Core.List.{List, [], _∷_, _++_, map}
 use Rattle.numerals.specs.Digits.{lead, rest, headIs, value, climbWithin}
 use Rattle.numerals.specs.Whole.{numberOf, behindPoint, factorOf, factorText}
-use Rattle.numerals.specs.Numbers.{thresholdText}
+use Rattle.numerals.specs.Numbers.{scientific, thresholdText}
 use Rattle.numerals.specs.Rounding.{five, power, rounded}
 use Rattle.numerals.specs.Threshold.{afterPlus, signedPower, powerOf, stopped, concluded, judged, pointed, thresholdOf}
 use Rattle.numerals.specs.declared.threshold.ThresholdNumeral.{ThresholdNumeral}
@@ -65,5 +65,5 @@ rows =
     ∷ []
 
 pub rows-hold : map (λ (r : Row). says (r .kind) (ascii (r .sent))) rows ≡ map (λ (r : Row). ascii (r .said)) rows
-unfolding lead rest headIs value climbWithin numberOf behindPoint factorOf five power rounded afterPlus signedPower powerOf stopped concluded judged pointed thresholdOf
+unfolding scientific lead rest headIs value climbWithin numberOf behindPoint factorOf five power rounded afterPlus signedPower powerOf stopped concluded judged pointed thresholdOf
 rows-hold = refl

@@ -58,7 +58,7 @@ signByte (pos n) = code "+"
 signByte (negsuc n) = code "-"
 
 -- "d.ddddE, sign, two digits"
-abbrev pub scientific : ℕ → ℤ → List ℕ
+unfoldable pub scientific : ℕ → ℤ → List ℕ
 scientific m e = dig 1 (m / 10000) ++ (code "." ∷ (dig 4 m ++ (code "E" ∷ signByte e ∷ dig 2 (natAbs e))))
 
 abbrev pub thresholdText : Threshold → List ℕ

@@ -1,29 +1,31 @@
+-- `digits::wide`: a number of 32 bits has at most ten digits.
+use mathlib.Core.Path.{_≡_, refl, ap, _∙_}
+use Prim.Native.Nat.{ℕ, _+_, _≤_}
+use Rattle.numerals.specs.Digits.{climb}
+use Rattle.numerals.specs.declared.digits.Climbed.{Climbed}
+use Rattle.numerals.proofs.Climb.{climb-enough}
 use borrow.Author.Needs.{needs}
+use native.Mathlib.Omega.{arith}
 use Rattle.numerals.proofs.digits.wide.Statement.{statement}
 use Rattle.numerals.proofs.digits.wide.Tie as tie
-use Rattle.numerals.proofs.digits.wide.Reads as reads
-use Rattle.numerals.proofs.digits.wide.Lts as lts
-use Rattle.numerals.proofs.digits.climb.Reads as climb-reads
 
--- src/digits.rt:96:23
 add-climb : tie.Need-add-climb
 add-climb c = search needs
 
--- src/digits.rt:96:9
 climb-requires : tie.Need-climb-requires
 climb-requires c κs = search needs
 
--- src/digits.rt:97:6
 cast-result : tie.Need-cast-result
 cast-result c = search needs
 
--- src/digits.rt:97:5
 add-result : tie.Need-add-result
 add-result c = search needs
 
--- src/digits.rt:93:1
 returns : tie.Need-returns
-returns c = ?
+returns c =
+    let n = c .before .before .args .n in
+    let e : c .before .climb .result .tens ≡ climb 10 (n + 1) = ap (λ (r : Climbed). r .tens) (c .before .climb .ensures) in
+    (ap (λ (k : ℕ). k + 1) e, omega (arith, e, climb-enough 10 (n + 1) 9 (omega arith)))
 
 pub wide-spec : {M : Type 1} → statement M
 wide-spec = tie.close (tie.spec add-climb climb-requires cast-result add-result returns)

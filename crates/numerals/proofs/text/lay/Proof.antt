@@ -1,49 +1,57 @@
+-- `text::lay`: after i turns the output is the copy of i bytes.
+use Prim.Native.Nat.{_≤_, _<_, _+_, _-_}
+use mathlib.Core.Path.{_≡_, refl, ap, _∙_}
+use native.Mathlib.Numerals.{add-one}
+use lib.ListN.{length, length-set}
+use lib.Seq.{paste, paste-zero, paste-suc}
+use borrow.Author.Needs.{needs}
+use native.Mathlib.Omega.{arith}
 use Rattle.numerals.proofs.text.lay.Statement.{statement}
 use Rattle.numerals.proofs.text.lay.Tie as tie
-use Rattle.numerals.proofs.text.lay.Reads as reads
-use Rattle.numerals.proofs.text.lay.Lts as lts
 
 abbrev Inv-loop : tie.InvT-loop
-Inv-loop out₀ at n bytes i₀ out i = ?
+Inv-loop out₀ at n bytes i₀ out i = (i ≤ n) × (length bytes ≡ 64) × (length out ≡ length out₀) × (out ≡ paste out₀ at bytes i)
 
 abbrev μ-loop : tie.MeasureT-loop
-μ-loop out₀ at n bytes i₀ out i = ?
+μ-loop out₀ at n bytes i₀ out i = n - i
 
--- src/text.rt:67:5
 loop-holds : tie.Need-loop-holds Inv-loop μ-loop
-loop-holds c = ?
+loop-holds c = let a = c .args in (search needs, search needs, refl, paste-zero (a .out .now) (a .at) (a .t3))
 
--- src/text.rt:68:23
 array-read-out : tie.Need-array-read-out Inv-loop μ-loop
-array-read-out c = ?
+array-read-out c = search needs
 
--- src/text.rt:68:13
 add-out : tie.Need-add-out Inv-loop μ-loop
-add-out c = ?
+add-out c = search needs
 
--- src/text.rt:68:9
 slice-write-out : tie.Need-slice-write-out Inv-loop μ-loop
-slice-write-out c = ?
+slice-write-out c = search needs
 
--- src/text.rt:69:9
 add-i : tie.Need-add-i Inv-loop μ-loop
-add-i c = ?
+add-i c = search needs
 
--- src/text.rt:67:5
 loop-less : tie.Need-loop-less Inv-loop μ-loop
-loop-less c = ?
+loop-less c = search needs
 
--- src/text.rt:67:5
 loop-again : tie.Need-loop-again Inv-loop μ-loop
-loop-again c = ?
+loop-again c =
+    let a = c .before .before .args in
+    let l = c .before .loop in (
+      search needs,
+      l .inv .1,
+      simp length-set (l .inv .2),
+      rw (l .inv .3, add-one (l .i)) (paste-suc (a .out .now) (a .at) (a .t3) (l .i) 0 (omega arith) (omega arith)),
+    )
 
--- src/text.rt:62:1
 same-length : tie.Need-same-length Inv-loop μ-loop
-same-length c = ?
+same-length c = c .before .loop .inv .2
 
--- src/text.rt:62:1
 returns : tie.Need-returns Inv-loop μ-loop
-returns c = ?
+returns c =
+    let a = c .before .before .args in
+    let l = c .before .loop in
+    let all : l .i ≡ a .n = omega arith in
+    l .inv .3 ∙ ap (paste (a .out .now) (a .at) (a .t3)) all
 
 pub lay-spec : {M : Type 1} → statement M
 lay-spec =

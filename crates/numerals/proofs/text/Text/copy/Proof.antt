@@ -1,41 +1,43 @@
+-- `Text::copy`: each test that fails leaves the output as it was; past them all the text lands whole.
+use mathlib.Core.Path.{_≡_, refl, sym, _∙_}
+use Rattle.numerals.proofs.Texts.{lands-long, lands-short, lands-whole, kept, written}
 use borrow.Author.Needs.{needs}
+use native.Mathlib.Omega.{arith}
 use Rattle.numerals.proofs.text.Text.copy.Statement.{statement}
 use Rattle.numerals.proofs.text.Text.copy.Tie as tie
-use Rattle.numerals.proofs.text.Text.copy.Reads as reads
-use Rattle.numerals.proofs.text.Text.copy.Lts as lts
-use Rattle.numerals.proofs.text.lay.Reads as lay-reads
 
--- src/text.rt:47:13
 returns : tie.Need-returns
-returns c = ?
+returns c =
+    let a = c .before .before .args in
+    kept (a .self) (a .out .now) (a .at) (lands-long (a .self) (a .out .now) (a .at) (c .if1 .taken))
 
--- src/text.rt:50:13
 returns-2 : tie.Need-returns-2
-returns-2 c = ?
+returns-2 c =
+    let a = c .before .before .before .args in
+    kept (a .self) (a .out .now) (a .at) (lands-short (a .self) (a .out .now) (a .at) (omega arith) (omega arith))
 
--- src/text.rt:52:12
 sub-if3 : tie.Need-sub-if3
 sub-if3 c = search needs
 
--- src/text.rt:53:13
 returns-3 : tie.Need-returns-3
-returns-3 c = ?
+returns-3 c =
+    let a = c .before .before .before .before .args in
+    kept (a .self) (a .out .now) (a .at) (lands-short (a .self) (a .out .now) (a .at) (omega arith) (omega arith))
 
--- src/text.rt:56:9
 lay-requires : tie.Need-lay-requires
 lay-requires c κs = search needs
 
--- src/text.rt:57:9
 add-result : tie.Need-add-result
 add-result c = search needs
 
--- src/text.rt:42:5
 same-length : tie.Need-same-length
 same-length c = search needs
 
--- src/text.rt:42:5
 returns-4 : tie.Need-returns-4
-returns-4 c = ?
+returns-4 c =
+    let a = c .before .before .before .before .before .before .before .before .before .args in
+    let w = written (a .self) (a .out .now) (a .at) (lands-whole (a .self) (a .out .now) (a .at) (omega arith) (omega arith)) in
+    (w .0, c .before .before .lay .ensures ∙ w .1)
 
 pub copy-spec : {M : Type 1} → statement M
 copy-spec =

@@ -1,27 +1,28 @@
+-- `Text::factor`: the thousands, the point and three digits, put one after the other.
+use mathlib.Core.Path.{_≡_, refl, ap, sym, _∙_}
+use Prim.Native.Nat.{_/_}
+use mathlib.Core.List.{_∷_}
+use Prim.Native.Char.{code}
+use Rattle.numerals.specs.Digits.{dig}
+use Rattle.numerals.specs.Whole.{wholeText}
+use Rattle.numerals.proofs.Texts.{puts-append}
 use borrow.Author.Needs.{needs}
 use Rattle.numerals.proofs.text.Text.factor.Statement.{statement}
 use Rattle.numerals.proofs.text.Text.factor.Tie as tie
-use Rattle.numerals.proofs.text.Text.factor.Reads as reads
-use Rattle.numerals.proofs.text.Text.factor.Lts as lts
-use Rattle.numerals.proofs.text.Text.digits.Reads as digits-reads
-use Rattle.numerals.proofs.text.Text.put.Reads as put-reads
-use Rattle.numerals.proofs.text.Text.whole.Reads as whole-reads
 
--- src/whole.rt:136:9
 whole-requires : tie.Need-whole-requires
 whole-requires c κs = search needs
 
--- src/whole.rt:136:9
 put-requires : tie.Need-put-requires
 put-requires c κs = search needs
 
--- src/whole.rt:136:9
 digits-requires : tie.Need-digits-requires
 digits-requires c κs = search needs
 
--- src/whole.rt:133:5
 returns : tie.Need-returns
-returns c = ?
+returns c =
+    let a = c .before .before .before .args in
+    rw (c .digits .ensures, c .before .put .ensures, c .before .before .whole .ensures) (sym (puts-append (a .self) (wholeText (a .t / 1000)) (code "." ∷ dig 3 (a .t))))
 
 pub factor-spec : {M : Type 1} → statement M
 factor-spec = tie.close (tie.spec whole-requires put-requires digits-requires returns)

@@ -1,32 +1,35 @@
+-- `Text::value`: the sign, then the magnitude's digits and the exponent.
+use Prim.Native.Nat.{ℕ}
+use mathlib.Core.Path.{_≡_, refl, ap, _∙_}
+use lib.IntN.{ℤ, natAbs}
+use mir.Syntax.{w32}
+use mir.Val.{SFits}
+use mir.Facts.{toZ-ofZ}
+use Rattle.numerals.specs.Numbers.{signByte}
 use borrow.Author.Needs.{needs}
 use Rattle.numerals.proofs.text.Text.value.Statement.{statement}
 use Rattle.numerals.proofs.text.Text.value.Tie as tie
-use Rattle.numerals.proofs.text.Text.value.Reads as reads
-use Rattle.numerals.proofs.text.Text.value.Lts as lts
-use Rattle.numerals.proofs.text.Text.put.Reads as put-reads
-use Rattle.numerals.proofs.text.Text.scientific.Reads as scientific-reads
-use Rattle.numerals.proofs.value.magnitude.Reads as magnitude-reads
-use Rattle.numerals.proofs.value.sign_byte.Reads as sign-byte-reads
 
--- src/value.rt:169:18
 sign-byte-requires : tie.Need-sign-byte-requires
 sign-byte-requires c κs = search needs
 
--- src/value.rt:169:9
 put-requires : tie.Need-put-requires
 put-requires c κs = search needs
 
--- src/value.rt:169:43
 magnitude-requires : tie.Need-magnitude-requires
 magnitude-requires c κs = search needs
 
--- src/value.rt:169:9
 scientific-requires : tie.Need-scientific-requires
 scientific-requires c κs = search needs
 
--- src/value.rt:165:5
 returns : tie.Need-returns
-returns c = ?
+returns c =
+    let a = c .before .before .before .before .before .before .args in
+    let f : SFits w32 (a .v .mantissa) = search needs in
+    let g : SFits w32 (a .v .exponent) = search needs in
+    let m = c .before .before .magnitude .ensures ∙ ap natAbs (toZ-ofZ f) in
+    let s = c .before .before .before .before .sign-byte .ensures ∙ ap signByte (toZ-ofZ f) in
+    rw (c .scientific .ensures, toZ-ofZ g, m, c .before .before .before .put .ensures, s)
 
 pub value-spec : {M : Type 1} → statement M
 value-spec =

@@ -5,4 +5,5 @@ pub mod Climb
 pub mod Tens
 pub mod Nearest
 pub mod Texts
+pub mod Wholes
 pub mod Rows

@@ -1,11 +1,11 @@
 -- The digits that a list begins with, by places of the list.
 use Prim.Native.Nat.{ℕ, zero, suc, _+_, _-_, _*_, _^_, _≤_, _<_}
 use mathlib.Core.Path.{_≡_, refl, sym, ap, _∙_, subst}
-use mathlib.Core.List.{List, [], _∷_}
-use mathlib.Core.Bool.{Bool, true, false, cond}
+use mathlib.Core.List.{List, [], _∷_, _++_}
+use mathlib.Core.Bool.{Bool, true, false, cond, _&&_}
 use mathlib.Core.Logic.{⊎-elim}
 use native.Mathlib.Omega.{arith}
-use native.Mathlib.Nat.{pow-suc, pow-le-pow-right, add-zero}
+use native.Mathlib.Nat.{pow-suc, pow-le-pow-right, lt-of-lt-of-le}
 use native.Mathlib.Numerals.{add-one}
 use borrow.Author.Tests.{le-leb, lt-leb, leb-true}
 use lib.ListN.{length, getD, drop, take, drop-of-length-le, length-drop}
@@ -118,3 +118,48 @@ part-none a e s h = let k : e - a ≡ 0 = omega arith in rw k
 pub value-none : (n : ℕ) → value n [] ≡ n
 unfolding value
 value-none n = refl
+
+-- ---- what digits alone make: below ten to their count
+
+abbrev pub AllDigits : List ℕ → Type 0
+AllDigits [] = Unit {0}
+AllDigits (b ∷ s) = (b - 48 < 10) × AllDigits s
+
+digits-by : (b : ℕ) (l : List ℕ) (t u : Bool) → leb 48 b ≡ t → leb b 57 ≡ u → AllDigits l → AllDigits (cond (t && u) (b ∷ l) [])
+digits-by b l true true p q h = (omega (arith, leb-true b 57 q), h)
+digits-by b l true false p q h = tt
+digits-by b l false u p q h = tt
+
+pub lead-digits : (s : List ℕ) → AllDigits (lead s)
+unfolding lead
+lead-digits [] = tt
+lead-digits (b ∷ s) = digits-by b (lead s) (leb 48 b) (leb b 57) refl refl (lead-digits s)
+
+pub digits-join : (s t : List ℕ) → AllDigits s → AllDigits t → AllDigits (s ++ t)
+digits-join [] t h k = k
+digits-join (b ∷ s) t h k = (h .0, digits-join s t (h .1) k)
+
+value-below-from : (s : List ℕ) (n k : ℕ) → AllDigits s → n < 10 ^ k → value n s < 10 ^ (k + length s)
+value-below-from [] n k d h = rw (value-none n, let e : k + 0 ≡ k = omega arith in e) h
+value-below-from (b ∷ s) n k d h =
+    let e : k + suc (length s) ≡ k + 1 + length s = omega arith in
+    let g : n * 10 + (b - 48) < 10 ^ (k + 1) = rw (add-one, pow-suc) (omega (arith, d .0)) in
+    rw (value-more n s b, e) (value-below-from s (n * 10 + (b - 48)) (k + 1) (d .1) g)
+
+pub value-below : (s : List ℕ) (k : ℕ) → AllDigits s → length s ≤ k → value 0 s < 10 ^ k
+value-below s k d h =
+    lt-of-lt-of-le (value-below-from s 0 0 d (omega arith)) (pow-le-pow-right (omega arith) (let l : 0 + length s ≤ k = omega arith in l))
+
+length-by : (t : Bool) (b : ℕ) (s : List ℕ) → length (lead s) + length (rest s) ≡ length s
+    → length (cond t (b ∷ lead s) []) + length (cond t (rest s) (b ∷ s)) ≡ suc (length s)
+length-by true b s h = omega arith
+length-by false b s h = omega arith
+
+pub lead-rest-length : (s : List ℕ) → length (lead s) + length (rest s) ≡ length s
+unfolding lead rest
+lead-rest-length [] = refl
+lead-rest-length (b ∷ s) = length-by (isDigit b) b s (lead-rest-length s)
+
+-- how much is left behind the run that ends at p
+pub rest-length : (s : List ℕ) (a p : ℕ) → a ≤ length s → p ≡ a + length (lead (drop a s)) → length (rest (drop a s)) ≡ length s - p
+rest-length s a p h e = ap length (run-rest s a h p e) ∙ length-drop p s

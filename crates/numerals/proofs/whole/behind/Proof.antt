@@ -1,71 +1,77 @@
+-- `whole::behind`: nothing, or a point with digits that are read as a number.
+use Prim.Native.Nat.{ℕ, _+_, _-_, _*_, _^_, _≤_}
+use mathlib.Core.Path.{_≡_, sym, ap, _∙_}
+use lib.ListN.{length, drop, length-drop}
+use Rattle.numerals.specs.Whole.{thousandths}
+use Rattle.numerals.specs.declared.whole.Numeral.the-variants.{Number, Malformed}
+use Rattle.numerals.proofs.Runs.{head-in}
+use Rattle.numerals.proofs.Wholes.{number-read, point-none, point-at, point-not}
 use borrow.Author.Needs.{needs}
+use native.Mathlib.Omega.{arith}
 use Rattle.numerals.proofs.whole.behind.Statement.{statement}
 use Rattle.numerals.proofs.whole.behind.Tie as tie
-use Rattle.numerals.proofs.whole.behind.Reads as reads
-use Rattle.numerals.proofs.whole.behind.Lts as lts
-use Rattle.numerals.proofs.digits.is_at.Reads as is-at-reads
-use Rattle.numerals.proofs.whole.number.Reads as number-reads
-use Rattle.numerals.proofs.whole.thousandths.Reads as thousandths-reads
 
--- src/whole.rt:67:32
 mul-t8 : tie.Need-mul-t8
 mul-t8 c = search needs
 
--- src/whole.rt:67:9
 returns : tie.Need-returns
-returns c = ?
+returns c =
+    let a = c .before .before .args in
+    point-none (a .n) (drop (a .p) (a .s .now)) (omega (arith, length-drop (a .p) (a .s .now), c .if1 .taken))
 
--- src/whole.rt:69:8
 is-at-requires : tie.Need-is-at-requires
 is-at-requires c κs = search needs
 
--- src/whole.rt:70:27
 add-number : tie.Need-add-number
 add-number c = search needs
 
--- src/whole.rt:70:13
 number-requires : tie.Need-number-requires
 number-requires c κs = search needs
 
--- src/whole.rt:72:35
 enum-told : tie.Need-enum-told
 enum-told c = search needs
 
--- src/whole.rt:73:29
 enum-known-t : tie.Need-enum-known-t
 enum-known-t c = search needs
 
--- src/whole.rt:73:51
 mul-t12 : tie.Need-mul-t12
 mul-t12 c = search needs
 
--- src/whole.rt:73:88
 add-thousandths : tie.Need-add-thousandths
 add-thousandths c = search needs
 
--- src/whole.rt:73:77
 sub-thousandths : tie.Need-sub-thousandths
 sub-thousandths c = search needs
 
--- src/whole.rt:73:62
 thousandths-requires : tie.Need-thousandths-requires
-thousandths-requires c κs = ?
+thousandths-requires c κs =
+    let a = c .before .before .before .before .before .before .before .before .args in
+    let q = number-read 3 (drop (a .p + 1) (a .s .now)) (c .before .t .given .0 .0) (sym (c .before .before .before .number .ensures) ∙ c .before .t .given .1) in
+    let l = length-drop (a .p + 1) (a .s .now) in
+    (q .small, omega (arith, l, q .some), omega (arith, l, q .few))
 
--- src/whole.rt:73:51
 add-t17 : tie.Need-add-t17
 add-t17 c = search needs
 
--- src/whole.rt:71:9
 returns-2 : tie.Need-returns-2
-returns-2 c = ?
+returns-2 c =
+    let a = c .before .before .before .before .before .before .before .args in
+    let i = c .before .before .before .before in
+    ap (thousandths (a .n) (length (a .s .now) - (a .p + 1))) (sym (c .enum-told .given .1) ∙ c .before .before .number .ensures)
+    ∙ point-at (a .n) (a .p) (a .s .now) (omega arith) (i .before .if1 .left) (sym (i .is-at .ensures) ∙ c .before .before .before .if2 .taken)
 
--- src/whole.rt:71:9
 returns-3 : tie.Need-returns-3
-returns-3 c = ?
+returns-3 c =
+    let a = c .before .before .before .before .before .before .before .before .before .args in
+    let i = c .before .before .before .before .before .before in
+    ap (λ (m : ℕ). Number (a .n * 1000 + m)) (c .thousandths .ensures .0)
+    ∙ ap (thousandths (a .n) (length (a .s .now) - (a .p + 1))) (sym (c .before .before .t .given .1) ∙ c .before .before .before .before .number .ensures)
+    ∙ point-at (a .n) (a .p) (a .s .now) (omega arith) (i .before .if1 .left) (sym (i .is-at .ensures) ∙ c .before .before .before .before .before .if2 .taken)
 
--- src/whole.rt:62:1
 returns-4 : tie.Need-returns-4
-returns-4 c = ?
+returns-4 c =
+    let a = c .before .before .before .before .args in
+    point-not (a .n) (a .p) (a .s .now) (omega arith) (c .before .before .if1 .left) (sym (c .before .is-at .ensures) ∙ c .if2 .left)
 
 pub behind-spec : {M : Type 1} → statement M
 behind-spec =

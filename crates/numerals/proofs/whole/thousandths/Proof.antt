@@ -1,28 +1,26 @@
+-- `whole::thousandths`: one case for each count of digits.
+use mathlib.Core.Path.{_≡_}
 use borrow.Author.Needs.{needs}
+use native.Mathlib.Omega.{arith}
 use Rattle.numerals.proofs.whole.thousandths.Statement.{statement}
 use Rattle.numerals.proofs.whole.thousandths.Tie as tie
-use Rattle.numerals.proofs.whole.thousandths.Reads as reads
-use Rattle.numerals.proofs.whole.thousandths.Lts as lts
 
--- src/whole.rt:53:16
 mul-result : tie.Need-mul-result
 mul-result c = search needs
 
--- src/whole.rt:53:9
 returns : tie.Need-returns
-returns c = ?
+returns c = (rw (c .if1 .taken), omega arith)
 
--- src/whole.rt:56:16
 mul-result-2 : tie.Need-mul-result-2
 mul-result-2 c = search needs
 
--- src/whole.rt:56:9
 returns-2 : tie.Need-returns-2
-returns-2 c = ?
+returns-2 c = (rw (c .if2 .taken), omega arith)
 
--- src/whole.rt:48:1
 returns-3 : tie.Need-returns-3
-returns-3 c = ?
+returns-3 c =
+    let e : c .before .before .args .k ≡ 3 = omega arith in
+    (rw e (omega arith), omega arith)
 
 pub thousandths-spec : {M : Type 1} → statement M
 thousandths-spec = tie.close (tie.spec mul-result returns mul-result-2 returns-2 returns-3)

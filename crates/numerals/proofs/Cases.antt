@@ -21,3 +21,8 @@ true-or-false false = inr refl
 pub and-true : (a b : Bool) → a && b ≡ true → (a ≡ true) × (b ≡ true)
 and-true true b e = (refl, e)
 and-true false b e = absurd (subst T (sym e) tt)
+
+-- either way of a test
+pub cond-cases : {A : Type 0} (P : A → Type 0) (t : Bool) (x y : A) → (t ≡ true → P x) → (t ≡ false → P y) → P (cond t x y)
+cond-cases P true x y f g = f refl
+cond-cases P false x y f g = g refl

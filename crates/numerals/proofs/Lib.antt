@@ -6,4 +6,6 @@ pub mod Tens
 pub mod Nearest
 pub mod Texts
 pub mod Wholes
+pub mod Powers
+pub mod Order
 pub mod Rows

@@ -1,30 +1,43 @@
+-- A number below zero is negated in 64 bits, where its negation fits; any other is its own magnitude.
+use mathlib.Core.Path.{_≡_}
+use native.Mathlib.Omega.{arith}
 use borrow.Author.Needs.{needs}
+use lib.IntN.{ℤ, pos, negℤ, _-ℤ_}
+use lib.Signed.{natAbs-le}
+use mir.Syntax.{w32, w64}
+use mir.Val.{SFits, toZ, ofZ}
+use mir.Facts.{toZ-ofZ, sfits-widen, fits-natAbs}
+use Rattle.numerals.proofs.Signed.{zero-minus, abs-neg, neg-fits, neg-nonneg, nonneg}
 use Rattle.numerals.proofs.value.magnitude.Statement.{statement}
 use Rattle.numerals.proofs.value.magnitude.Tie as tie
-use Rattle.numerals.proofs.value.magnitude.Reads as reads
-use Rattle.numerals.proofs.value.magnitude.Lts as lts
 
--- src/value.rt:42:12
+widened : (z : ℤ) → SFits w32 z → pos 0 -ℤ toZ w64 (ofZ w64 (toZ w32 (ofZ w32 z))) ≡ negℤ z
+widened z f = rw (toZ-ofZ f, toZ-ofZ (sfits-widen {w = w32} {w′ = w64} tt f)) (zero-minus z)
+
 cast-result : tie.Need-cast-result
-cast-result c = ?
+cast-result c = let f = c .before .fits .z in rw (toZ-ofZ f) (sfits-widen tt f)
 
--- src/value.rt:42:10
 sub-result : tie.Need-sub-result
-sub-result c = ?
+sub-result c = let f = c .before .fits .z in rw (widened (c .before .args .z) f) (neg-fits _ f)
 
--- src/value.rt:42:9
 cast-result-2 : tie.Need-cast-result-2
-cast-result-2 c = ?
+cast-result-2 c =
+    let z = c .before .args .z in
+    let f = c .before .fits .z in
+    rw (widened z f, toZ-ofZ (neg-fits z f))
+    (neg-nonneg z (rw (toZ-ofZ f) at (c .if1 .taken)), record { fits = omega (arith, abs-neg z, natAbs-le z (f .sfits)) })
 
--- src/value.rt:44:9
 cast-result-3 : tie.Need-cast-result-3
-cast-result-3 c = ?
+cast-result-3 c =
+    let f = c .before .fits .z in
+    rw (toZ-ofZ f) (nonneg (c .before .args .z) (rw (toZ-ofZ f) at (c .if1 .left)), fits-natAbs tt f)
 
--- src/value.rt:38:1
 returns : tie.Need-returns
-returns c = ?
+returns c =
+    let z = c .before .args .z in
+    let f = c .before .fits .z in
+    rw (widened z f, toZ-ofZ (neg-fits z f)) (abs-neg z)
 
--- src/value.rt:38:1
 returns-2 : tie.Need-returns-2
 returns-2 c = search needs
 

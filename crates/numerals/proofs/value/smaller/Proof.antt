@@ -1,19 +1,31 @@
+-- The exponents decide, and where they are equal the digits (`Order`).
+use mathlib.Core.Path.{sym}
+use mir.Facts.{toZ-ofZ}
+use Rattle.numerals.proofs.Order.{lower-exponent, higher-exponent, same-exponent}
 use Rattle.numerals.proofs.value.smaller.Statement.{statement}
 use Rattle.numerals.proofs.value.smaller.Tie as tie
-use Rattle.numerals.proofs.value.smaller.Reads as reads
-use Rattle.numerals.proofs.value.smaller.Lts as lts
 
--- src/value.rt:68:9
 returns : tie.Need-returns
-returns c = ?
+returns c =
+    let s = c .before in
+    let a = s .args in
+    let h = rw (toZ-ofZ (s .fits .e), toZ-ofZ (s .fits .f)) at (c .if1 .taken) in
+    sym (lower-exponent (a .m) (a .e) (a .n) (a .f) (s .pre .1) (s .pre .2) h)
 
--- src/value.rt:71:9
 returns-2 : tie.Need-returns-2
-returns-2 c = ?
+returns-2 c =
+    let s = c .before .before in
+    let a = s .args in
+    let h = rw (toZ-ofZ (s .fits .e), toZ-ofZ (s .fits .f)) at (c .if2 .taken) in
+    sym (higher-exponent (a .m) (a .e) (a .n) (a .f) (s .pre .0) (s .pre .3) h)
 
--- src/value.rt:63:1
 returns-3 : tie.Need-returns-3
-returns-3 c = ?
+returns-3 c =
+    let s = c .before .before in
+    let a = s .args in
+    let h = rw (toZ-ofZ (s .fits .e), toZ-ofZ (s .fits .f)) at (c .before .if1 .left) in
+    let k = rw (toZ-ofZ (s .fits .e), toZ-ofZ (s .fits .f)) at (c .if2 .left) in
+    sym (same-exponent (a .m) (a .e) (a .n) (a .f) h k)
 
 pub smaller-spec : {M : Type 1} → statement M
 smaller-spec = tie.close (tie.spec returns returns-2 returns-3)

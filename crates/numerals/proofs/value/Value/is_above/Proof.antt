@@ -1,39 +1,39 @@
+-- The mirror of `is_below`: a value of zero or less is above no threshold, and `smaller`, the threshold first, decides for one above zero.
 use borrow.Author.Needs.{needs}
+use Rattle.numerals.proofs.Order.{Beside, nonpositive-above, positive-cast, positive-digits, positive-above, no-above}
 use Rattle.numerals.proofs.value.Value.is_above.Statement.{statement}
 use Rattle.numerals.proofs.value.Value.is_above.Tie as tie
-use Rattle.numerals.proofs.value.Value.is_above.Reads as reads
-use Rattle.numerals.proofs.value.Value.is_above.Lts as lts
-use Rattle.numerals.proofs.threshold.Threshold.is_within.Reads as is-within-reads
-use Rattle.numerals.proofs.value.Value.is_number.Reads as is-number-reads
-use Rattle.numerals.proofs.value.smaller.Reads as smaller-reads
 
--- src/value.rt:118:12
+beside : (c : tie.After-is-within) → Beside (c .before .before .args .self) (c .before .before .args .t) (c .before .is-number .result) (c .is-within .result)
+beside c = search needs
+
 is-number-requires : tie.Need-is-number-requires
 is-number-requires c κs = search needs
 
--- src/value.rt:118:31
 is-within-requires : tie.Need-is-within-requires
 is-within-requires c κs = search needs
 
--- src/value.rt:121:17
 returns : tie.Need-returns
-returns c = ?
+returns c = let b = c .before .before in nonpositive-above (beside (b .before)) (b .if1 .taken) (c .if2 .taken)
 
--- src/value.rt:123:52
 cast-smaller : tie.Need-cast-smaller
-cast-smaller c = ?
+cast-smaller c = let b = c .before .before in positive-cast (beside (b .before)) (b .if1 .taken) (c .if2 .left)
 
--- src/value.rt:123:13
 smaller-requires : tie.Need-smaller-requires
-smaller-requires c κs = ?
+smaller-requires c κs =
+    let d = c .before .before in
+    let b = d .before .before in
+    let p = positive-digits (beside (b .before)) (b .if1 .taken) (d .if2 .left) in
+    (p .2, p .3, p .0, p .1)
 
--- src/value.rt:123:13
 returns-2 : tie.Need-returns-2
-returns-2 c = ?
+returns-2 c =
+    let d = c .before .before .before in
+    let b = d .before .before in
+    positive-above (beside (b .before)) (b .if1 .taken) (d .if2 .left) (c .smaller .ensures)
 
--- src/value.rt:115:5
 returns-3 : tie.Need-returns-3
-returns-3 c = ?
+returns-3 c = no-above (beside (c .before)) (c .if1 .left)
 
 pub is-above-spec : {M : Type 1} → statement M
 is-above-spec =

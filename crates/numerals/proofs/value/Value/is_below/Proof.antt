@@ -1,39 +1,38 @@
+-- A value of zero or less is below every threshold, and `smaller` decides for one above zero: `Order` says both of the numbers as the code reads them.
 use borrow.Author.Needs.{needs}
+use Rattle.numerals.proofs.Order.{Beside, nonpositive-below, positive-cast, positive-digits, positive-below, no-below}
 use Rattle.numerals.proofs.value.Value.is_below.Statement.{statement}
 use Rattle.numerals.proofs.value.Value.is_below.Tie as tie
-use Rattle.numerals.proofs.value.Value.is_below.Reads as reads
-use Rattle.numerals.proofs.value.Value.is_below.Lts as lts
-use Rattle.numerals.proofs.threshold.Threshold.is_within.Reads as is-within-reads
-use Rattle.numerals.proofs.value.Value.is_number.Reads as is-number-reads
-use Rattle.numerals.proofs.value.smaller.Reads as smaller-reads
 
--- src/value.rt:105:12
+beside : (c : tie.After-is-within) → Beside (c .before .before .args .self) (c .before .before .args .t) (c .before .is-number .result) (c .is-within .result)
+beside c = search needs
+
 is-number-requires : tie.Need-is-number-requires
 is-number-requires c κs = search needs
 
--- src/value.rt:105:31
 is-within-requires : tie.Need-is-within-requires
 is-within-requires c κs = search needs
 
--- src/value.rt:108:17
 returns : tie.Need-returns
-returns c = ?
+returns c = let b = c .before .before in nonpositive-below (beside (b .before)) (b .if1 .taken) (c .if2 .taken)
 
--- src/value.rt:110:28
 cast-smaller : tie.Need-cast-smaller
-cast-smaller c = ?
+cast-smaller c = let b = c .before .before in positive-cast (beside (b .before)) (b .if1 .taken) (c .if2 .left)
 
--- src/value.rt:110:13
 smaller-requires : tie.Need-smaller-requires
-smaller-requires c κs = ?
+smaller-requires c κs =
+    let d = c .before .before in
+    let b = d .before .before in
+    positive-digits (beside (b .before)) (b .if1 .taken) (d .if2 .left)
 
--- src/value.rt:110:13
 returns-2 : tie.Need-returns-2
-returns-2 c = ?
+returns-2 c =
+    let d = c .before .before .before in
+    let b = d .before .before in
+    positive-below (beside (b .before)) (b .if1 .taken) (d .if2 .left) (c .smaller .ensures)
 
--- src/value.rt:102:5
 returns-3 : tie.Need-returns-3
-returns-3 c = ?
+returns-3 c = no-below (beside (c .before)) (c .if1 .left)
 
 pub is-below-spec : {M : Type 1} → statement M
 is-below-spec =

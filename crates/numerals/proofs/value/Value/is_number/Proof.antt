@@ -1,26 +1,27 @@
+-- Both magnitudes are `natAbs` (`magnitude`), and each test is the definition's.
 use borrow.Author.Needs.{needs}
+use mir.Syntax.{w32}
+use mir.Val.{SFits}
+use mir.Facts.{toZ-ofZ}
 use Rattle.numerals.proofs.value.Value.is_number.Statement.{statement}
 use Rattle.numerals.proofs.value.Value.is_number.Tie as tie
-use Rattle.numerals.proofs.value.Value.is_number.Reads as reads
-use Rattle.numerals.proofs.value.Value.is_number.Lts as lts
-use Rattle.numerals.proofs.value.Value.is_five.Reads as is-five-reads
-use Rattle.numerals.proofs.value.magnitude.Reads as magnitude-reads
 
--- src/value.rt:96:13
 magnitude-requires : tie.Need-magnitude-requires
 magnitude-requires c κs = search needs
 
--- src/value.rt:97:13
 magnitude-requires-2 : tie.Need-magnitude-requires-2
 magnitude-requires-2 c κs = search needs
 
--- src/value.rt:99:16
 is-five-requires : tie.Need-is-five-requires
 is-five-requires c κs = search needs
 
--- src/value.rt:93:5
 returns : tie.Need-returns
-returns c = ?
+returns c =
+    let m = c .before .before .before in
+    let v = m .before .before .args .self in
+    let f : SFits w32 (v .mantissa) = search needs in
+    let g : SFits w32 (v .exponent) = search needs in
+    rw (m .magnitude .ensures, c .before .magnitude2 .ensures, c .is-five .ensures, toZ-ofZ f, toZ-ofZ g)
 
 pub is-number-spec : {M : Type 1} → statement M
 is-number-spec =

@@ -58,8 +58,7 @@ sign-two minus s = go minus (numberOf 2 s) refl
     go : (b : Bool) (t : Numeral) → numberOf 2 s ≡ t → TwoDigits (withSign b t)
     go true (Number n) e = omega (arith, number-read 2 s n e .small, abs-neg (pos n))
     go false (Number n) e = number-read 2 s n e .small
-    go true Malformed e = tt
-    go false Malformed e = tt
+    go b Malformed e = tt
 
 signed-two : (s : List ℕ) → TwoDigits (signedPower s)
 unfolding signedPower

@@ -25,8 +25,7 @@ unfoldable pub afterPlus : List ℕ → List ℕ
 afterPlus s = cond (headIs (code "+") s) (drop 1 s) s
 
 abbrev pub withSign : Bool → Numeral → Power
-withSign true (Digits n) = Ten (negℤ (pos n))
-withSign false (Digits n) = Ten (pos n)
+withSign minus (Digits n) = Ten (cond minus (negℤ (pos n)) (pos n))
 withSign minus NoDigits = NoPower
 
 -- "an optional sign and one or two digits"

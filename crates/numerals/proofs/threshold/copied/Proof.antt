@@ -1,53 +1,60 @@
+-- `threshold::copied`: after i turns the copy of i bytes.
+use Prim.Native.Nat.{ℕ, _≤_, _<_, _+_, _-_}
+use mathlib.Core.Path.{_≡_, ap, _∙_}
+use native.Mathlib.Numerals.{add-one}
+use lib.ListN.{length, drop, length-drop}
+use lib.Seq.{paste, paste-zero, paste-suc, getD-drop}
+use borrow.Author.Needs.{needs}
+use native.Mathlib.Omega.{arith}
 use Rattle.numerals.proofs.threshold.copied.Statement.{statement}
 use Rattle.numerals.proofs.threshold.copied.Tie as tie
-use Rattle.numerals.proofs.threshold.copied.Reads as reads
-use Rattle.numerals.proofs.threshold.copied.Lts as lts
 
 abbrev Inv-loop : tie.InvT-loop
-Inv-loop k s a e r₀ i₀ n r i = ?
+Inv-loop k s a e r₀ i₀ n r i = (i ≤ n) × (length r₀ ≡ 12) × (r ≡ paste r₀ k (drop a s) i)
 
 abbrev μ-loop : tie.MeasureT-loop
-μ-loop k s a e r₀ i₀ n r i = ?
+μ-loop k s a e r₀ i₀ n r i = n - i
 
--- src/threshold.rt:111:13
 sub-n : tie.Need-sub-n Inv-loop μ-loop
-sub-n c = ?
+sub-n c = search needs
 
--- src/threshold.rt:112:5
 loop-holds : tie.Need-loop-holds Inv-loop μ-loop
-loop-holds c = ?
+loop-holds c = let a = c .args in (search needs, search needs, paste-zero (a .d) (a .k) (drop (a .a) (a .s .now)))
 
--- src/threshold.rt:113:22
 add-r : tie.Need-add-r Inv-loop μ-loop
-add-r c = ?
+add-r c = search needs
 
--- src/threshold.rt:113:20
 shared-slice-read-r : tie.Need-shared-slice-read-r Inv-loop μ-loop
-shared-slice-read-r c = ?
+shared-slice-read-r c = search needs
 
--- src/threshold.rt:113:11
 add-r-2 : tie.Need-add-r-2 Inv-loop μ-loop
-add-r-2 c = ?
+add-r-2 c = search needs
 
--- src/threshold.rt:113:9
 array-write-r : tie.Need-array-write-r Inv-loop μ-loop
-array-write-r c = ?
+array-write-r c = search needs
 
--- src/threshold.rt:114:9
 add-i : tie.Need-add-i Inv-loop μ-loop
-add-i c = ?
+add-i c = search needs
 
--- src/threshold.rt:112:5
 loop-less : tie.Need-loop-less Inv-loop μ-loop
-loop-less c = ?
+loop-less c = search needs
 
--- src/threshold.rt:112:5
 loop-again : tie.Need-loop-again Inv-loop μ-loop
-loop-again c = ?
+loop-again c =
+    let a = c .before .before .before .args in
+    let l = c .before .before .loop in (
+      search needs,
+      l .inv .1,
+      rw (l .inv .2, add-one (l .i), ← getD-drop (a .a) (a .s .now) (l .i) 0)
+          (paste-suc (a .d) (a .k) (drop (a .a) (a .s .now)) (l .i) 0 (omega arith) (omega (arith, length-drop (a .a) (a .s .now)))),
+    )
 
--- src/threshold.rt:105:1
 returns : tie.Need-returns Inv-loop μ-loop
-returns c = ?
+returns c =
+    let a = c .before .before .args in
+    let l = c .before .loop in
+    let all : l .i ≡ a .e - a .a = omega arith in
+    l .inv .2 ∙ ap (paste (a .d) (a .k) (drop (a .a) (a .s .now))) all
 
 pub copied-spec : {M : Type 1} → statement M
 copied-spec =

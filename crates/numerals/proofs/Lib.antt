@@ -3,9 +3,11 @@ pub mod Signed
 pub mod Runs
 pub mod Climb
 pub mod Tens
+pub mod Fractions
 pub mod Nearest
 pub mod Texts
 pub mod Wholes
 pub mod Powers
 pub mod Order
+pub mod Stops
 pub mod Rows

@@ -1,10 +1,10 @@
 -- "rounded to five significant digits, half upwards" (01, "Settings"; "Readings, switching, streaming").
-use Prim.Native.Nat.{ℕ, _+_, _*_, _/_, _^_}
+use Prim.Native.Nat.{ℕ, _+_, _*_, _/_, _^_, _≤_, _<_}
 use mathlib.Core.Bool.{Bool, true, false, cond, _&&_}
 use lib.Dec.{leb, eqb}
 use lib.IntN.{ℤ, pos, negsuc, negℤ, natAbs, _+ℤ_, _-ℤ_}
 use Rattle.numerals.specs.Digits.{climb}
-use Rattle.numerals.specs.Numbers.{isFive}
+use Rattle.numerals.specs.Numbers.{isFive, tens, tenths}
 use Rattle.numerals.specs.declared.threshold.Threshold.{Threshold}
 use Rattle.numerals.specs.declared.value.Value.{Value}
 use Rattle.numerals.specs.declared.value.Ratio.{Ratio}
@@ -52,3 +52,12 @@ unfoldable pub scaledBy : Value → Ratio → Value
 scaledBy v r =
     cond (isFive v && isUsable r) (record { mantissa = signed (v .mantissa) (product v r .mantissa); exponent = product v r .exponent })
     v
+
+-- m, standing for d.dddd, times ten to the e is the five-digit number nearest to n / d times ten to the x, a tie going upwards:
+-- no five-digit number above it is as near, and none below it nearer. n / d is taken ten thousand times, as m is, and
+-- n / d lies below the middle of two numbers where twice it is less than their sum; fractions are multiplied out.
+pub record Nearest (n d : ℕ) (x : ℤ) (m : ℕ) (e : ℤ) : Type 0 where
+  pub above : (k : ℕ) (f : ℤ) → 10000 ≤ k → k ≤ 99999 → m * (tens e * tenths f) < k * (tens f * tenths e)
+      → 2 * (n * 10000 * tens x) * (tenths e * tenths f) < (m * (tens e * tenths f) + k * (tens f * tenths e)) * (d * tenths x)
+  pub below : (k : ℕ) (f : ℤ) → 10000 ≤ k → k ≤ 99999 → k * (tens f * tenths e) < m * (tens e * tenths f)
+      → (m * (tens e * tenths f) + k * (tens f * tenths e)) * (d * tenths x) ≤ 2 * (n * 10000 * tens x) * (tenths e * tenths f)

@@ -1,10 +1,26 @@
 // Five significant digits, half upwards: for the threshold reader and for scaling alike.
 ghost use mathlib.Core.Path.{_≡_};
-ghost use Prim.Native.Nat.{_≤_, _<_};
-ghost use lib.IntN.{natAbs};
-ghost use Rattle.numerals.specs.Rounding.{rounded};
+ghost use Prim.Native.Nat.{_≤_, _<_, _+_, _*_};
+ghost use lib.IntN.{natAbs, pos, _+ℤ_, _-ℤ_};
+ghost use Rattle.numerals.specs.Rounding.{nearest, rounded};
 use crate::digits::climb;
 use crate::threshold::Threshold;
+
+// n / d to the nearest whole number, half upwards.
+fn nearest(n: u64, d: u64) -> u32
+    requires { ⌜ (1 ≤ d) × (n ≤ 100000000000000000) × (d * 10000 ≤ n) × (n < d * 100000) ⌝ }
+    ensures { λ r. ⌜ r ≡ nearest n d ⌝ }
+{
+    ((2 * n + d) / (2 * d)) as u32
+}
+
+// The power of ten of five digits, for a number that was moved up and down to have them.
+fn power(tens: i32, up: u32, down: u32) -> i32
+    requires { ⌜ (natAbs tens ≤ 1000) × (up + down ≤ 16) ⌝ }
+    ensures { λ r. ⌜ r ≡ tens +ℤ pos (4 + down) -ℤ pos up ⌝ }
+{
+    tens + ((4 + down) as i32) - (up as i32)
+}
 
 // over / under times ten to the tens, to five significant digits.
 pub(crate) fn rounded(over: u64, under: u64, tens: i32) -> Threshold
@@ -13,8 +29,8 @@ pub(crate) fn rounded(over: u64, under: u64, tens: i32) -> Threshold
 {
     let up = climb(over, under * 10000);
     let down = climb(under, over / 100000 + 1);
-    let m = ((2 * up.size + down.size) / (2 * down.size)) as u32;
-    let e = tens + ((4 + down.tens) as i32) - (up.tens as i32);
+    let m = nearest(up.size, down.size);
+    let e = power(tens, up.tens, down.tens);
     if m == 100000 {
         return Threshold {
             mantissa: 10000,

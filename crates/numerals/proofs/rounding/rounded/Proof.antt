@@ -1,77 +1,91 @@
+-- `rounding::rounded`: what was placed has five digits; they and their power are those of the definition, carried or not.
+use Prim.Native.Nat.{ℕ, _+_, _*_, _/_, _^_, _≤_, _<_}
+use mathlib.Core.Path.{_≡_, refl, sym, ap, ap₂, _∙_}
+use borrow.Author.Tests.{eq-eqb, ne-eqb}
+use lib.IntN.{ℤ, pos, natAbs, _+ℤ_, _-ℤ_}
+use mir.Syntax.{w32}
+use mir.Val.{SFits}
+use mir.Facts.{toZ-ofZ}
+use Rattle.numerals.specs.Digits.{climb}
+use Rattle.numerals.specs.Rounding.{nearest, up, down, five, power, rounded}
+use Rattle.numerals.specs.declared.digits.Climbed.{Climbed}
+use Rattle.numerals.proofs.Nearest.{placed, power-near}
+use Rattle.numerals.proofs.Signed.{small, abs-add}
 use borrow.Author.Needs.{needs}
+use native.Mathlib.Omega.{arith}
 use Rattle.numerals.proofs.rounding.rounded.Statement.{statement}
 use Rattle.numerals.proofs.rounding.rounded.Tie as tie
-use Rattle.numerals.proofs.rounding.rounded.Reads as reads
-use Rattle.numerals.proofs.rounding.rounded.Lts as lts
-use Rattle.numerals.proofs.digits.climb.Reads as climb-reads
 
--- src/rounding.rt:14:26
+-- the digits and the power, of the parameters themselves
+digits : (c : tie.After-power) → c .before .nearest .result ≡ five (c .before .before .before .before .args .over) (c .before .before .before .before .args .under)
+unfolding five
+digits c =
+    c .before .nearest .ensures
+    ∙ ap₂ nearest (ap (λ (r : Climbed). r .size) (c .before .before .before .climb .ensures)) (ap (λ (r : Climbed). r .size) (c .before .before .climb2 .ensures))
+
+exponent : (c : tie.After-power)
+    → c .power .result ≡ power (c .before .before .before .before .args .over) (c .before .before .before .before .args .under) (c .before .before .before .before .args .tens)
+unfolding power
+exponent c =
+    rw (c .power .ensures, toZ-ofZ (c .before .before .before .before .fits .tens), c .before .before .before .climb .ensures, c .before .before .climb2 .ensures)
+
+near : (c : tie.After-power) → natAbs (c .power .result) ≤ 1020
+near c =
+    let a = c .before .before .before .before .args in
+    rw (exponent c) (omega (arith, power-near (a .over) (a .under) (omega arith) (omega arith) (omega arith) (omega arith) (a .tens)))
+
+held : (c : tie.After-power) → SFits w32 (c .power .result)
+held c = small _ (omega (arith, near c))
+
+carried : (c : tie.After-power) → SFits w32 (c .power .result +ℤ pos 1)
+carried c = small _ (omega (arith, near c, abs-add (c .power .result) (pos 1)))
+
 mul-climb : tie.Need-mul-climb
 mul-climb c = search needs
 
--- src/rounding.rt:14:9
 climb-requires : tie.Need-climb-requires
 climb-requires c κs = search needs
 
--- src/rounding.rt:15:29
 add-climb : tie.Need-add-climb
 add-climb c = search needs
 
--- src/rounding.rt:15:9
 climb-requires-2 : tie.Need-climb-requires-2
 climb-requires-2 c κs = search needs
 
--- src/rounding.rt:16:15
-mul-m : tie.Need-mul-m
-mul-m c = ?
+nearest-requires : tie.Need-nearest-requires
+nearest-requires c κs =
+    let a = c .before .before .args in
+    let p = placed (a .over) (a .under) (omega arith) (omega arith) (omega arith) (omega arith) in
+    rw (c .before .climb .ensures, c .climb2 .ensures) (omega (arith, p))
 
--- src/rounding.rt:16:15
-add-m : tie.Need-add-m
-add-m c = ?
+power-requires : tie.Need-power-requires
+power-requires c κs =
+    let a = c .before .before .before .args in
+    let p = placed (a .over) (a .under) (omega arith) (omega arith) (omega arith) (omega arith) in
+    rw (toZ-ofZ (c .before .before .before .fits .tens), c .before .before .climb .ensures, c .before .climb2 .ensures) (omega arith, p .moved)
 
--- src/rounding.rt:16:43
-mul-m-2 : tie.Need-mul-m-2
-mul-m-2 c = ?
+add-t11 : tie.Need-add-t11
+add-t11 c = rw (toZ-ofZ (held (c .before))) (carried (c .before))
 
--- src/rounding.rt:16:14
-div-m : tie.Need-div-m
-div-m c = ?
-
--- src/rounding.rt:16:13
-cast-m : tie.Need-cast-m
-cast-m c = ?
-
--- src/rounding.rt:17:22
-add-e : tie.Need-add-e
-add-e c = ?
-
--- src/rounding.rt:17:21
-cast-e : tie.Need-cast-e
-cast-e c = ?
-
--- src/rounding.rt:17:13
-add-e-2 : tie.Need-add-e-2
-add-e-2 c = ?
-
--- src/rounding.rt:17:48
-cast-e-2 : tie.Need-cast-e-2
-cast-e-2 c = ?
-
--- src/rounding.rt:17:13
-sub-e : tie.Need-sub-e
-sub-e c = ?
-
--- src/rounding.rt:21:23
-add-t17 : tie.Need-add-t17
-add-t17 c = ?
-
--- src/rounding.rt:19:9
 returns : tie.Need-returns
-returns c = ?
+unfolding rounded
+returns c =
+    rw (
+      toZ-ofZ (held (c .before)),
+      toZ-ofZ (carried (c .before)),
+      exponent (c .before),
+      eq-eqb _ _ (sym (digits (c .before)) ∙ c .if1 .taken),
+    )
 
--- src/rounding.rt:10:1
 returns-2 : tie.Need-returns-2
-returns-2 c = ?
+unfolding rounded
+returns-2 c =
+    rw (
+      toZ-ofZ (held (c .before)),
+      exponent (c .before),
+      digits (c .before),
+      ne-eqb _ _ (λ e. c .if1 .left (digits (c .before) ∙ e)),
+    )
 
 pub rounded-spec : {M : Type 1} → statement M
 rounded-spec =
@@ -81,16 +95,8 @@ rounded-spec =
     climb-requires
     add-climb
     climb-requires-2
-    mul-m
-    add-m
-    mul-m-2
-    div-m
-    cast-m
-    add-e
-    cast-e
-    add-e-2
-    cast-e-2
-    sub-e
-    add-t17
+    nearest-requires
+    power-requires
+    add-t11
     returns
     returns-2)

@@ -9,5 +9,6 @@ pub mod Texts
 pub mod Wholes
 pub mod Powers
 pub mod Order
+pub mod Judging
 pub mod Stops
 pub mod Rows

@@ -5,7 +5,7 @@ ghost use Prim.Native.Nat.{_≤_, _<_, _+_, _-_};
 ghost use lib.ListN.{length, drop, replicate};
 ghost use lib.IntN.{natAbs};
 ghost use lib.Seq.{paste};
-ghost use Rattle.numerals.specs.Digits.{part, lead, rest};
+ghost use Rattle.numerals.specs.Digits.{part, lead, rest, value};
 ghost use Rattle.numerals.specs.Whole.{numberOf};
 ghost use Rattle.numerals.specs.Numbers.{withinStops};
 ghost use Rattle.numerals.specs.Threshold.{withSign, signedPower, powerOf, concluded, judged, pointed, thresholdOf};
@@ -116,6 +116,18 @@ fn copied(d: [u8; 12], k: usize, s: &[u8], a: usize, e: usize) -> [u8; 12]
     r
 }
 
+// The number that the digits from a up to p and from b up to q make, up to twelve of them.
+fn gathered(s: &[u8], a: usize, p: usize, b: usize, q: usize) -> u64
+    requires { ⌜ (a ≤ p) × (p ≤ b) × (b ≤ q) × (q ≤ length (now s)) × (p - a + (q - b) ≤ 12) ⌝ }
+    ensures { λ r. ⌜ (r ≡ value 0 (part a p (now (s .entry)) ++ part b q (now (s .entry)))) × (r ≤ 23000000000000) ⌝ }
+{
+    let w = p - a;
+    let zeros = [0u8; 12];
+    let whole = copied(zeros, 0, s, a, p);
+    let digits = copied(whole, w, s, b, q);
+    value(&digits, 0, w + (q - b))
+}
+
 // The number n times ten to the x, rounded and held to the end stops.
 fn conclude(n: u64, x: i32) -> ThresholdNumeral
     requires { ⌜ (n ≤ 23000000000000) × (natAbs x ≤ 1000) ⌝ }
@@ -136,9 +148,8 @@ fn judge(s: &[u8], a: usize, p: usize, b: usize, q: usize) -> ThresholdNumeral
     requires { ⌜ (a ≤ p) × (p ≤ b) × (b ≤ q) × (q ≤ length (now s)) ⌝ }
     ensures { λ r. ⌜ r ≡ judged (part a p (now (s .entry))) (part b q (now (s .entry))) (drop q (now (s .entry))) ⌝ }
 {
-    let w = p - a;
     let f = q - b;
-    let n = w + f;
+    let n = p - a + f;
     if n < 1 {
         return ThresholdNumeral::Malformed;
     }
@@ -148,12 +159,7 @@ fn judge(s: &[u8], a: usize, p: usize, b: usize, q: usize) -> ThresholdNumeral
     let t = power_at(s, q);
     match t {
         Power::NoPower => ThresholdNumeral::Malformed,
-        Power::Ten(e) => {
-            let zeros = [0u8; 12];
-            let whole = copied(zeros, 0, s, a, p);
-            let digits = copied(whole, w, s, b, q);
-            conclude(value(&digits, 0, n), e - (f as i32))
-        }
+        Power::Ten(e) => conclude(gathered(s, a, p, b, q), e - (f as i32)),
     }
 }
 

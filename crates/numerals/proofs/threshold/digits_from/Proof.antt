@@ -1,47 +1,60 @@
+-- `threshold::digits_from`: the run of digits, and where a point stands behind it the run behind the point.
+use Prim.Native.Nat.{ℕ, _+_, _≤_}
+use mathlib.Core.Path.{_≡_, sym, _∙_}
+use Prim.Native.Char.{code}
+use Rattle.numerals.proofs.Runs.{head-in, run-in}
+use Rattle.numerals.proofs.Judging.{pointed-there, pointed-not}
 use borrow.Author.Needs.{needs}
+use native.Mathlib.Omega.{arith}
 use Rattle.numerals.proofs.threshold.digits_from.Statement.{statement}
 use Rattle.numerals.proofs.threshold.digits_from.Tie as tie
-use Rattle.numerals.proofs.threshold.digits_from.Reads as reads
-use Rattle.numerals.proofs.threshold.digits_from.Lts as lts
-use Rattle.numerals.proofs.digits.is_at.Reads as is-at-reads
-use Rattle.numerals.proofs.digits.run.Reads as run-reads
-use Rattle.numerals.proofs.threshold.judge.Reads as judge-reads
 
--- src/threshold.rt:165:9
 run-requires : tie.Need-run-requires
 run-requires c κs = search needs
 
--- src/threshold.rt:166:8
 is-at-requires : tie.Need-is-at-requires
 is-at-requires c κs = search needs
 
--- src/threshold.rt:167:24
 add-run : tie.Need-add-run
-add-run c = ?
+add-run c =
+    let a = c .before .before .before .before .args in
+    omega (arith, head-in (code ".") (c .before .before .run .result) (a .s .now) (sym (c .before .is-at .ensures) ∙ c .if1 .taken))
 
--- src/threshold.rt:167:13
 run-requires-2 : tie.Need-run-requires-2
-run-requires-2 c κs = ?
+run-requires-2 c κs =
+    let a = c .before .before .before .before .args in
+    omega (arith, head-in (code ".") (c .before .before .run .result) (a .s .now) (sym (c .before .is-at .ensures) ∙ c .if1 .taken))
 
--- src/threshold.rt:168:31
 add-judge : tie.Need-add-judge
 add-judge c = search needs
 
--- src/threshold.rt:168:9
 judge-requires : tie.Need-judge-requires
-judge-requires c κs = ?
+judge-requires c κs =
+    let p = c .before .before .before .run in
+    let a = c .before .before .before .before .before .args in
+    let i = head-in (code ".") (p .result) (a .s .now) (sym (c .before .before .is-at .ensures) ∙ c .before .if1 .taken) in
+    omega (arith, p .ensures, c .run2 .ensures, run-in (a .s .now) (p .result + 1) (omega arith))
 
--- src/threshold.rt:168:9
 returns : tie.Need-returns
-returns c = ?
+returns c =
+    let r = c .before .before .before .before in
+    let a = r .before .before .args in
+    c .judge .ensures
+    ∙ pointed-there (a .s .now) (a .a) (r .run .result) (c .before .run2 .result) (omega arith) (r .run .ensures)
+    (sym (c .before .before .before .is-at .ensures) ∙ c .before .before .if1 .taken) (c .before .run2 .ensures)
 
--- src/threshold.rt:170:5
 judge-requires-2 : tie.Need-judge-requires-2
-judge-requires-2 c κs = ?
+judge-requires-2 c κs =
+    let p = c .before .before .run in
+    let a = c .before .before .before .before .args in
+    omega (arith, p .ensures, run-in (a .s .now) (a .a) (omega arith))
 
--- src/threshold.rt:161:1
 returns-2 : tie.Need-returns-2
-returns-2 c = ?
+returns-2 c =
+    let r = c .before .before .before in
+    let a = r .before .before .args in
+    c .judge2 .ensures
+    ∙ pointed-not (a .s .now) (a .a) (r .run .result) (omega arith) (r .run .ensures) (sym (c .before .before .is-at .ensures) ∙ c .before .if1 .left)
 
 pub digits-from-spec : {M : Type 1} → statement M
 digits-from-spec =

@@ -1,30 +1,33 @@
+-- `threshold::threshold_in`: the plus decides where the digits begin.
+use mathlib.Core.Path.{_≡_, sym, _∙_}
+use Prim.Native.Char.{code}
+use Rattle.numerals.proofs.Runs.{head-in}
+use Rattle.numerals.proofs.Judging.{plus-there, plus-not}
 use borrow.Author.Needs.{needs}
+use native.Mathlib.Omega.{arith}
 use Rattle.numerals.proofs.threshold.threshold_in.Statement.{statement}
 use Rattle.numerals.proofs.threshold.threshold_in.Tie as tie
-use Rattle.numerals.proofs.threshold.threshold_in.Reads as reads
-use Rattle.numerals.proofs.threshold.threshold_in.Lts as lts
-use Rattle.numerals.proofs.digits.is_at.Reads as is-at-reads
-use Rattle.numerals.proofs.threshold.digits_from.Reads as digits-from-reads
 
--- src/threshold.rt:176:8
 is-at-requires : tie.Need-is-at-requires
 is-at-requires c κs = search needs
 
--- src/threshold.rt:177:9
 digits-from-requires : tie.Need-digits-from-requires
-digits-from-requires c κs = ?
+digits-from-requires c κs =
+    let s = c .before .before .before .args .s .now in
+    omega (arith, head-in (code "+") 0 s (sym (c .before .is-at .ensures) ∙ c .if1 .taken))
 
--- src/threshold.rt:177:9
 returns : tie.Need-returns
-returns c = ?
+returns c =
+    let s = c .before .before .before .before .args .s .now in
+    c .digits-from .ensures ∙ plus-there s (sym (c .before .before .is-at .ensures) ∙ c .before .if1 .taken)
 
--- src/threshold.rt:179:5
 digits-from-requires-2 : tie.Need-digits-from-requires-2
 digits-from-requires-2 c κs = search needs
 
--- src/threshold.rt:173:1
 returns-2 : tie.Need-returns-2
-returns-2 c = ?
+returns-2 c =
+    let s = c .before .before .before .before .args .s .now in
+    c .digits-from2 .ensures ∙ plus-not s (sym (c .before .before .is-at .ensures) ∙ c .before .if1 .left)
 
 pub threshold-in-spec : {M : Type 1} → statement M
 threshold-in-spec =

@@ -1,7 +1,7 @@
 -- Five significant digits, half upwards: where n / d is placed, how far its digits and its power reach, and that they are the nearest.
 use Prim.Native.Nat.{ℕ, suc, _+_, _*_, _/_, _^_, _≤_, _<_}
 use mathlib.Core.Path.{_≡_, refl, ap}
-use mathlib.Core.Bool.{true, _&&_}
+use mathlib.Core.Bool.{true, false, _&&_}
 use mathlib.Core.Logic.{⊎-elim}
 use native.Mathlib.Omega.{arith}
 use native.Mathlib.Nat.{mul-le-mul, mul-le-mul-right, mul-lt-mul-of-pos-right, lt-of-mul-lt-mul-right, le-of-mul-le-mul-right, mul-pos, one-le-pow}
@@ -12,7 +12,7 @@ use lib.Dec.{leb, eqb}
 use lib.IntN.{ℤ, pos, negsuc, natAbs, _+ℤ_, _-ℤ_, +ℤ-idr, -ℤ-+ℤ-cancel}
 use Rattle.numerals.proofs.Cases.{below, and-true, cond-cases}
 use Rattle.numerals.proofs.Climb.{climb-reaches, climb-enough, climb-none, climb-short}
-use Rattle.numerals.proofs.Signed.{abs-add, abs-minus, abs-neg}
+use Rattle.numerals.proofs.Signed.{abs-add, abs-minus, abs-neg, between-near}
 use Rattle.numerals.proofs.Fractions.{tens-some, tenths-some, tens-more, tens-apart, tens-level}
 use Rattle.numerals.specs.Numbers.{fiveDigits, between, isFive, tens, tenths}
 use Rattle.numerals.specs.Rounding.{nearest, up, down, five, power, rounded, signed, isUsable, product, scaledBy, Nearest}
@@ -242,7 +242,14 @@ module _ (v : Value) (r : Ratio) (h : isFive v && isUsable r ≡ true) where
       let under = ranged 1 1000000000000 (r .under) (parts .1) in
       omega (arith, mul-le-mul (digits .0) (over .0), mul-le-mul (digits .1) (over .1))
 
-  scaled-is : scaledBy v r ≡ record { mantissa = signed (v .mantissa) (product v r .mantissa); exponent = product v r .exponent }
+  pub exponent-range : natAbs (v .exponent) ≤ 99
+  exponent-range =
+      between-near 98 (v .exponent) (and-true (fiveDigits (natAbs (v .mantissa))) (between (negsuc 98) (pos 99) (v .exponent)) (and-true (isFive v) (isUsable r) h .0) .1)
+
+  pub product-five : (10000 ≤ product v r .mantissa) × (product v r .mantissa ≤ 99999)
+  product-five = let b = scaled-range in rounded-five _ _ (b .0) (b .1) (b .2) (b .3) (v .exponent -ℤ pos 4)
+
+  pub scaled-is : scaledBy v r ≡ record { mantissa = signed (v .mantissa) (product v r .mantissa); exponent = product v r .exponent }
   unfolding scaledBy
   scaled-is = rw h
 
@@ -251,8 +258,13 @@ module _ (v : Value) (r : Ratio) (h : isFive v && isUsable r ≡ true) where
   scaled-nearest = let b = scaled-range in rw (scaled-is, abs-signed) (rounded-nearest _ _ (b .0) (b .1) (b .2) (b .3) (v .exponent -ℤ pos 4))
 
   pub scaled-five : (10000 ≤ natAbs (scaledBy v r .mantissa)) × (natAbs (scaledBy v r .mantissa) ≤ 99999)
-  scaled-five = let b = scaled-range in rw (scaled-is, abs-signed) (rounded-five _ _ (b .0) (b .1) (b .2) (b .3) (v .exponent -ℤ pos 4))
+  scaled-five = rw (scaled-is, abs-signed) product-five
 
   -- its sign is kept
   pub scaled-sign : scaledBy v r .mantissa ≡ signed (v .mantissa) (natAbs (scaledBy v r .mantissa))
   scaled-sign = rw (scaled-is, abs-signed)
+
+-- what is not scaled stays as it is
+pub scaled-not : (v : Value) (r : Ratio) → isFive v && isUsable r ≡ false → v ≡ scaledBy v r
+unfolding scaledBy
+scaled-not v r h = rw h

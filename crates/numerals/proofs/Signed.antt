@@ -3,12 +3,14 @@ use Prim.Native.Nat.{ℕ, zero, suc, _+_, _-_, _^_, _≤_, _<_}
 use mathlib.Core.Path.{_≡_, refl, sym, ap, _∙_, subst}
 use mathlib.Core.Bool.{Bool, true, false, cond}
 use native.Mathlib.Omega.{arith}
-use borrow.Author.Tests.{ltb-true, ltb-false, lt-leb, le-leb}
-use lib.Dec.{T, ltb}
+use borrow.Author.Tests.{ltb-true, ltb-false, leb-true, lt-leb, le-leb}
+use lib.Dec.{T, leb, ltb}
 use lib.IntN.{ℤ, pos, negsuc, negℤ, natAbs, subℕ, _+ℤ_, _-ℤ_, +ℤ-idl}
 use lib.Signed.{mag, ltZ, leZ, nonNeg, natAbs-le}
 use mir.Syntax.{w32, w64}
 use mir.Val.{SFits}
+use Rattle.numerals.specs.Numbers.{between}
+use Rattle.numerals.proofs.Cases.{and-true}
 
 mag-le : (z : ℤ) → mag z ≤ natAbs z
 mag-le (pos n) = omega arith
@@ -67,3 +69,8 @@ ge-le (pos a) (pos b) e = le-leb b a (ltb-false a b e)
 ge-le (pos a) (negsuc b) e = refl
 ge-le (negsuc a) (pos b) e = sym e
 ge-le (negsuc a) (negsuc b) e = le-leb a b (ltb-false b a e)
+
+-- an exponent within limits as far below zero as above it
+pub between-near : (k : ℕ) (e : ℤ) → between (negsuc k) (pos (suc k)) e ≡ true → natAbs e ≤ suc k
+between-near k (pos n) h = leb-true n (suc k) h
+between-near k (negsuc n) h = omega (arith, leb-true n k (and-true (leb n k) true h .0))

@@ -1,10 +1,11 @@
 // Signed values: their order beside thresholds, their scaling, and how numbers of five digits are written.
 ghost use mathlib.Core.Path.{_≡_};
+ghost use mathlib.Core.Bool.{true, _&&_};
 ghost use Prim.Native.Nat.{_≤_, _<_, _*_};
 ghost use lib.Dec.{ltb};
 ghost use lib.IntN.{natAbs, pos};
 ghost use Rattle.numerals.specs.Numbers.{isFive, isNumber, tens, tenths, isBelow, isAbove, scientific, thresholdText, valueText, signByte};
-ghost use Rattle.numerals.specs.Rounding.{signed, isUsable, scaledBy};
+ghost use Rattle.numerals.specs.Rounding.{signed, isUsable, product, scaledBy};
 ghost use Rattle.numerals.specs.Text.{puts};
 use crate::rounding::rounded;
 use crate::text::Text;
@@ -125,14 +126,25 @@ impl Value {
         false
     }
 
-    // The value times the ratio, rounded once to five digits, half upwards.
-    pub fn scaled(self, by: Ratio) -> Value
-        ensures { λ r. ⌜ r ≡ scaledBy self by ⌝ }
+    // The magnitude of the value times the ratio, rounded once.
+    fn product(self, ratio: Ratio) -> Threshold
+        requires { ⌜ isFive self && isUsable ratio ≡ true ⌝ }
+        ensures { λ r. ⌜ r ≡ product self ratio ⌝ }
     {
-        if self.is_five() & by.is_usable() {
+        let m = magnitude(self.mantissa);
+        let e = self.exponent;
+        let over = ratio.over;
+        let under = ratio.under;
+        rounded((m as u64) * over, under, e - 4)
+    }
+
+    // The value times the ratio, rounded once to five digits, half upwards.
+    pub fn scaled(self, ratio: Ratio) -> Value
+        ensures { λ r. ⌜ r ≡ scaledBy self ratio ⌝ }
+    {
+        if self.is_five() & ratio.is_usable() {
             let m = self.mantissa;
-            let e = self.exponent;
-            let t = rounded((magnitude(m) as u64) * by.over, by.under, e - 4);
+            let t = self.product(ratio);
             return Value {
                 mantissa: with_sign(m, t.mantissa),
                 exponent: t.exponent,

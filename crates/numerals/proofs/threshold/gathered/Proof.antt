@@ -42,8 +42,8 @@ returns c =
     let f = a .q - a .b in
     let runs = c .before .before .copied2 .ensures ∙ ap (λ (d : List ℕ). paste d w y f) (c .before .before .before .copied .ensures) in (
       c .value .ensures .0
-      ∙ ap (λ (d : List ℕ). value 0 (part 0 (w + f) d)) runs
-      ∙ ap (value 0) (two-runs (replicate 12 0) x y w f refl (omega (arith, length-drop (a .a) (a .s .now))) (omega (arith, length-drop (a .b) (a .s .now))) (omega arith)),
+          ∙ ap (λ (d : List ℕ). value 0 (part 0 (w + f) d)) runs
+          ∙ ap (value 0) (two-runs (replicate 12 0) x y w f refl (omega (arith, length-drop (a .a) (a .s .now))) (omega (arith, length-drop (a .b) (a .s .now))) (omega arith)),
       omega (arith, bound-below (c .value .result) (w + f - 0) 12 (c .value .ensures .1) (omega arith)),
     )
 

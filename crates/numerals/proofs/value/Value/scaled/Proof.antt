@@ -1,53 +1,56 @@
+-- `Value::scaled`: the product with the value's sign, or the value as it came.
+use Prim.Native.Nat.{ℕ, _≤_}
+use mathlib.Core.Path.{_≡_, refl, sym, ap, ap₂, _∙_}
+use mathlib.Core.Bool.{Bool, _&&_}
+use mir.Syntax.{w32}
+use mir.Val.{SFits}
+use mir.Facts.{toZ-ofZ}
+use Rattle.numerals.specs.Numbers.{isFive}
+use Rattle.numerals.specs.Rounding.{isUsable}
+use Rattle.numerals.proofs.Nearest.{product-five, scaled-is, scaled-not}
 use borrow.Author.Needs.{needs}
+use native.Mathlib.Omega.{arith}
 use Rattle.numerals.proofs.value.Value.scaled.Statement.{statement}
 use Rattle.numerals.proofs.value.Value.scaled.Tie as tie
-use Rattle.numerals.proofs.value.Value.scaled.Reads as reads
-use Rattle.numerals.proofs.value.Value.scaled.Lts as lts
-use Rattle.numerals.proofs.rounding.rounded.Reads as rounded-reads
-use Rattle.numerals.proofs.value.Ratio.is_usable.Reads as is-usable-reads
-use Rattle.numerals.proofs.value.Value.is_five.Reads as is-five-reads
-use Rattle.numerals.proofs.value.magnitude.Reads as magnitude-reads
-use Rattle.numerals.proofs.value.with_sign.Reads as with-sign-reads
 
--- src/value.rt:132:12
+scalable : (c : tie.After-is-usable) → c .before .is-five .result && c .is-usable .result ≡ isFive (c .before .before .args .self) && isUsable (c .before .before .args .ratio)
+scalable c = ap₂ _&&_ (c .before .is-five .ensures) (c .is-usable .ensures)
+
 is-five-requires : tie.Need-is-five-requires
 is-five-requires c κs = search needs
 
--- src/value.rt:132:29
 is-usable-requires : tie.Need-is-usable-requires
 is-usable-requires c κs = search needs
 
--- src/value.rt:135:30
-magnitude-requires : tie.Need-magnitude-requires
-magnitude-requires c κs = search needs
+product-requires : tie.Need-product-requires
+product-requires c κs = sym (scalable (c .before .before)) ∙ c .before .if1 .taken
 
--- src/value.rt:135:30
-cast-rounded : tie.Need-cast-rounded
-cast-rounded c = search needs
-
--- src/value.rt:135:29
-mul-rounded : tie.Need-mul-rounded
-mul-rounded c = ?
-
--- src/value.rt:135:72
-sub-rounded : tie.Need-sub-rounded
-sub-rounded c = ?
-
--- src/value.rt:135:17
-rounded-requires : tie.Need-rounded-requires
-rounded-requires c κs = ?
-
--- src/value.rt:137:27
 with-sign-requires : tie.Need-with-sign-requires
-with-sign-requires c κs = ?
+with-sign-requires c κs =
+    let b = c .before .before in
+    let a = b .before .before .before .args in
+    rw (c .product .ensures) (omega (arith, product-five (a .self) (a .ratio) (sym (scalable (b .before)) ∙ b .if1 .taken)))
 
--- src/value.rt:136:13
 returns : tie.Need-returns
-returns c = ?
+returns c =
+    let b = c .before .before .before .before in
+    let a = b .before .before .before .args in
+    let f : SFits w32 (a .self .mantissa) = search needs in
+    let g : SFits w32 (c .before .with-sign .result) = search needs in
+    let h : SFits w32 (c .before .before .product .result .exponent) = search needs in
+    rw (
+      toZ-ofZ g,
+      toZ-ofZ h,
+      c .before .with-sign .ensures,
+      toZ-ofZ f,
+      c .before .before .product .ensures,
+      scaled-is (a .self) (a .ratio) (sym (scalable (b .before)) ∙ b .if1 .taken),
+    )
 
--- src/value.rt:129:5
 returns-2 : tie.Need-returns-2
-returns-2 c = ?
+returns-2 c =
+    let a = c .before .before .before .args in
+    scaled-not (a .self) (a .ratio) (sym (scalable (c .before)) ∙ c .if1 .left)
 
 pub scaled-spec : {M : Type 1} → statement M
 scaled-spec =
@@ -55,11 +58,7 @@ scaled-spec =
     (tie.spec
     is-five-requires
     is-usable-requires
-    magnitude-requires
-    cast-rounded
-    mul-rounded
-    sub-rounded
-    rounded-requires
+    product-requires
     with-sign-requires
     returns
     returns-2)

@@ -1,0 +1,7 @@
+pub mod Signed
+pub mod Climb
+pub mod Tens
+pub mod Fractions
+pub mod Nearest
+pub mod Stops
+pub mod Order

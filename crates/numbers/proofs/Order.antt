@@ -1,0 +1,200 @@
+-- The order of numbers of five digits: the exponents decide, and where they are equal the digits. A value beside a threshold.
+use Prim.Native.Nat.{ℕ, zero, suc, _*_, _^_, _≤_, _<_}
+use mathlib.Core.Path.{_≡_, refl, sym, ap, _∙_, subst}
+use mathlib.Core.Bool.{Bool, true, false, cond, _&&_}
+use mathlib.Core.Logic.{⊎-elim}
+use native.Mathlib.Omega.{arith}
+use native.Mathlib.Nat.{pow-suc, pow-le-pow-right, one-le-pow, zero-mul, mul-pos, mul-le-mul, mul-le-mul-right, mul-lt-mul-of-pos-right, le-antisymm, le-of-lt}
+use borrow.Author.Tests.{ltb-true, ltb-false, leb-true, leb-false, lt-ltb, le-ltb, ne-eqb}
+use lib.Dec.{T, ltb}
+use lib.IntN.{ℤ, pos, negsuc, negℤ, natAbs, _*ℤ_}
+use lib.Signed.{ltZ, leZ, nonNeg, pos-natAbs}
+use mir.Syntax.{w32}
+use mir.Val.{Fits, SFits, toZ, ofZ}
+use mir.Facts.{toZ-ofZ, fits-natAbs}
+use Rattle.text.proofs.Cases.{below, and-true, ranged}
+use Rattle.numbers.proofs.Fractions.{tens-some, tenths-some}
+use Rattle.numbers.specs.Numbers.{isNumber, withinStops, tens, tenths, less, isBelow, isAbove}
+use Rattle.numbers.specs.declared.threshold.Threshold.{Threshold}
+use Rattle.numbers.specs.declared.value.Value.{Value}
+
+-- what depends on the sign alone is told by the test for a number below zero
+pub by-sign : {A : Type 0} (f : ℤ → A) (a b : A) → ((n : ℕ) → f (negsuc n) ≡ a) → ((n : ℕ) → f (pos n) ≡ b) → (z : ℤ) → f z ≡ cond (ltZ z (pos 0)) a b
+by-sign f a b h k (pos n) = rw (le-ltb n 0 (omega arith)) (k n)
+by-sign f a b h k (negsuc n) = h n
+
+-- no number is both below and above another
+lt-not-gt : (a b : ℤ) → ltZ a b ≡ true → ltZ b a ≡ false
+lt-not-gt (pos a) (pos b) h = le-ltb b a (omega (arith, ltb-true a b h))
+lt-not-gt (pos a) (negsuc b) h = absurd (subst T (sym h) tt)
+lt-not-gt (negsuc a) (pos b) h = refl
+lt-not-gt (negsuc a) (negsuc b) h = le-ltb a b (omega (arith, ltb-true b a h))
+
+not-lt-not-gt : (a b : ℤ) → ltZ a b ≡ false → ltZ b a ≡ false → a ≡ b
+not-lt-not-gt (pos a) (pos b) h k = ap pos (le-antisymm (ltb-false b a k) (ltb-false a b h))
+not-lt-not-gt (pos a) (negsuc b) h k = absurd (subst T k tt)
+not-lt-not-gt (negsuc a) (pos b) h k = absurd (subst T h tt)
+not-lt-not-gt (negsuc a) (negsuc b) h k = ap negsuc (le-antisymm (ltb-false b a h) (ltb-false a b k))
+
+-- powers of ten brought to one denominator are not zero
+powers : (e f : ℤ) → 0 < tens e * tenths f
+powers e f = mul-pos (tens-some e) (tenths-some f)
+
+-- the power with the higher exponent is at least ten times the other
+pub tenfold : (e f : ℤ) → ltZ e f ≡ true → 10 * (tens e * tenths f) ≤ tens f * tenths e
+tenfold (pos a) (pos b) h = omega (arith, pow-suc 10 a, pow-le-pow-right {n = 10} (omega arith) (ltb-true a b h))
+tenfold (pos a) (negsuc b) h = absurd (subst T (sym h) tt)
+tenfold (negsuc a) (pos b) h =
+    let l : 10 ≤ 10 ^ suc a = omega (arith, pow-suc 10 a, one-le-pow a 10 (omega arith)) in
+    omega (arith, mul-le-mul (one-le-pow b 10 (omega arith)) l)
+tenfold (negsuc a) (negsuc b) h =
+    let l : suc (suc b) ≤ suc a = omega (arith, ltb-true b a h) in
+    omega (arith, pow-suc 10 (suc b), pow-le-pow-right {n = 10} (omega arith) l)
+
+five-below : (m n p q : ℕ) → m ≤ 99999 → 10000 ≤ n → 0 < p → 10 * p ≤ q → m * p < n * q
+five-below m n p q hm hn hp hq = omega (arith, mul-le-mul-right p hm, mul-le-mul hn hq)
+
+-- a factor that is not zero keeps the order
+factor : (m n p : ℕ) → 0 < p → ltb (m * p) (n * p) ≡ ltb m n
+factor m n p h =
+    ⊎-elim (λ (l : m < n). lt-ltb _ _ (mul-lt-mul-of-pos-right l h) ∙ sym (lt-ltb _ _ l))
+    (λ (g : n ≤ m). le-ltb _ _ (mul-le-mul-right p g) ∙ sym (le-ltb _ _ g)) (below m n)
+
+-- `less` of two numbers that are not negative
+abbrev pub smaller : ℕ → ℤ → ℕ → ℤ → Bool
+smaller m e n f = ltb (m * (tens e * tenths f)) (n * (tens f * tenths e))
+
+module _ (m : ℕ) (e : ℤ) (n : ℕ) (f : ℤ) where
+  pub lower-exponent : m ≤ 99999 → 10000 ≤ n → ltZ e f ≡ true → smaller m e n f ≡ true
+  lower-exponent hm hn h = lt-ltb _ _ (five-below m n _ _ hm hn (powers e f) (tenfold e f h))
+
+  pub higher-exponent : 10000 ≤ m → n ≤ 99999 → ltZ f e ≡ true → smaller m e n f ≡ false
+  higher-exponent hm hn h = le-ltb _ _ (le-of-lt (five-below n m _ _ hn hm (powers f e) (tenfold f e h)))
+
+  pub same-exponent : ltZ e f ≡ false → ltZ f e ≡ false → smaller m e n f ≡ ltb m n
+  same-exponent h k = rw (not-lt-not-gt e f h k) (factor m n _ (powers f f))
+
+neg-lt : (k n : ℕ) → 0 < k → ltZ (negℤ (pos k)) (pos n) ≡ true
+neg-lt zero n h = absurd (omega arith)
+neg-lt (suc k) n h = refl
+
+-- zero and what is negative is below every number above zero
+pub less-nonpositive : (z e : ℤ) (n : ℕ) (f : ℤ) → leZ z (pos 0) ≡ true → 0 < n → less z e (pos n) f ≡ true
+unfolding less
+less-nonpositive (pos zero) e n f h k = rw zero-mul (lt-ltb 0 _ (mul-pos k (powers f e)))
+less-nonpositive (pos (suc m)) e n f h k = absurd (let l : suc m ≤ 0 = leb-true (suc m) 0 h in omega arith)
+less-nonpositive (negsuc m) e n f h k = neg-lt (suc m * (tens e * tenths f)) (n * (tens f * tenths e)) (mul-pos (omega arith) (powers e f))
+
+pub less-naturals : (m : ℕ) (e : ℤ) (n : ℕ) (f : ℤ) → less (pos m) e (pos n) f ≡ smaller m e n f
+unfolding less
+less-naturals m e n f = refl
+
+-- of two numbers one at most is less than the other
+pub less-not-both : (m e n f : ℤ) → less m e n f ≡ true → less n f m e ≡ false
+unfolding less
+less-not-both m e n f h = lt-not-gt (m *ℤ pos (tens e * tenths f)) (n *ℤ pos (tens f * tenths e)) h
+
+not-negative : (z : ℤ) → leZ z (pos 0) ≡ false → T (nonNeg z)
+not-negative (pos n) h = tt
+not-negative (negsuc n) h = subst T h tt
+
+not-zero : (z : ℤ) → leZ z (pos 0) ≡ false → natAbs z ≡ 0 → ⊥
+not-zero (pos n) h q = omega (arith, leb-false n 0 h)
+not-zero (negsuc n) h q = subst T h tt
+
+both : (a b c : Bool) → a ≡ true → b ≡ true → a && (b && c) ≡ c
+both a b c h k = rw (h, k)
+
+not-both : (a b c : Bool) → a && b ≡ false → a && (b && c) ≡ false
+not-both true b c h = rw h
+not-both false b c h = refl
+
+module _ (v : Value) (t : Threshold) where
+  -- below and above are the order of the numbers
+  pub below-is-less : isNumber v ≡ true → withinStops t ≡ true → isBelow v t ≡ less (v .mantissa) (v .exponent) (pos (t .mantissa)) (t .exponent)
+  unfolding isBelow
+  below-is-less h k = both (isNumber v) (withinStops t) _ h k
+
+  pub above-is-less : isNumber v ≡ true → withinStops t ≡ true → isAbove v t ≡ less (pos (t .mantissa)) (t .exponent) (v .mantissa) (v .exponent)
+  unfolding isAbove
+  above-is-less h k = both (isNumber v) (withinStops t) _ h k
+
+  -- and nothing is both
+  pub below-not-above : isBelow v t ≡ true → isAbove v t ≡ false
+  unfolding isBelow
+  below-not-above h =
+      let a = and-true (isNumber v) _ h in
+      let b = and-true (withinStops t) _ (a .1) in
+      above-is-less (a .0) (b .0) ∙ less-not-both (v .mantissa) (v .exponent) (pos (t .mantissa)) (t .exponent) (b .1)
+
+-- What `is_below` and `is_above` start from: the answers n and w, and that 32 bits hold each number that they read.
+pub record Beside (v : Value) (t : Threshold) (n w : Bool) : Type 0 where
+  pub number : n ≡ isNumber v
+  pub within : w ≡ withinStops t
+  pub digits : SFits w32 (v .mantissa)
+  pub power : SFits w32 (v .exponent)
+  pub stop : SFits w32 (t .exponent)
+
+abbrev read : ℤ → ℤ
+read z = toZ w32 (ofZ w32 z)
+
+-- Their ways out, in the order of the code: a value of zero or less, one above zero, and no two numbers.
+module _ {v : Value} {t : Threshold} {n w : Bool} (beside : Beside v t n w) where
+  module _ (comparable : n && w ≡ true) where
+    is-number : isNumber v ≡ true
+    is-number = sym (beside .number) ∙ and-true n w comparable .0
+
+    is-within : withinStops t ≡ true
+    is-within = sym (beside .within) ∙ and-true n w comparable .1
+
+    stop-digits : (10000 ≤ t .mantissa) × (t .mantissa ≤ 99999)
+    stop-digits = ranged 10000 99999 (t .mantissa) (and-true _ _ is-within .0)
+
+    nonpositive : leZ (read (v .mantissa)) (pos 0) ≡ true → isBelow v t ≡ true
+    nonpositive h =
+        below-is-less v t is-number is-within
+        ∙ less-nonpositive (v .mantissa) (v .exponent) (t .mantissa) (t .exponent) (rw (toZ-ofZ (beside .digits)) at h) (omega (arith, stop-digits))
+
+    pub nonpositive-below : leZ (read (v .mantissa)) (pos 0) ≡ true → true ≡ isBelow v t
+    nonpositive-below h = sym (nonpositive h)
+
+    pub nonpositive-above : leZ (read (v .mantissa)) (pos 0) ≡ true → false ≡ isAbove v t
+    nonpositive-above h = sym (below-not-above v t (nonpositive h))
+
+    module _ (test : leZ (read (v .mantissa)) (pos 0) ≡ false) where
+      positive : leZ (v .mantissa) (pos 0) ≡ false
+      positive = rw (toZ-ofZ (beside .digits)) at test
+
+      natural : v .mantissa ≡ pos (natAbs (v .mantissa))
+      natural = sym (pos-natAbs (v .mantissa) (not-negative (v .mantissa) positive))
+
+      value-digits : (10000 ≤ natAbs (v .mantissa)) × (natAbs (v .mantissa) ≤ 99999)
+      value-digits =
+          let h = rw (ne-eqb (natAbs (v .mantissa)) 0 (not-zero (v .mantissa) positive)) at is-number in
+          ranged 10000 99999 (natAbs (v .mantissa)) (and-true _ _ h .0)
+
+      pub positive-cast : T (nonNeg (read (v .mantissa))) × Fits w32 (natAbs (read (v .mantissa)))
+      positive-cast = rw (toZ-ofZ (beside .digits)) (not-negative (v .mantissa) positive, fits-natAbs tt (beside .digits))
+
+      pub positive-digits : (10000 ≤ natAbs (read (v .mantissa))) × (natAbs (read (v .mantissa)) ≤ 99999) × (10000 ≤ t .mantissa) × (t .mantissa ≤ 99999)
+      positive-digits = rw (toZ-ofZ (beside .digits)) (value-digits .0, value-digits .1, stop-digits .0, stop-digits .1)
+
+      pub positive-below : {r : Bool} → r ≡ smaller (natAbs (read (v .mantissa))) (read (v .exponent)) (t .mantissa) (read (t .exponent)) → r ≡ isBelow v t
+      positive-below h =
+          rw (toZ-ofZ (beside .digits), toZ-ofZ (beside .power), toZ-ofZ (beside .stop)) at h
+          ∙ sym (less-naturals (natAbs (v .mantissa)) (v .exponent) (t .mantissa) (t .exponent))
+          ∙ sym (ap (λ z. less z (v .exponent) (pos (t .mantissa)) (t .exponent)) natural) ∙ sym (below-is-less v t is-number is-within)
+
+      pub positive-above : {r : Bool} → r ≡ smaller (t .mantissa) (read (t .exponent)) (natAbs (read (v .mantissa))) (read (v .exponent)) → r ≡ isAbove v t
+      positive-above h =
+          rw (toZ-ofZ (beside .digits), toZ-ofZ (beside .power), toZ-ofZ (beside .stop)) at h
+          ∙ sym (less-naturals (t .mantissa) (t .exponent) (natAbs (v .mantissa)) (v .exponent))
+          ∙ sym (ap (λ z. less (pos (t .mantissa)) (t .exponent) z (v .exponent)) natural) ∙ sym (above-is-less v t is-number is-within)
+
+  pub no-below : n && w ≡ false → false ≡ isBelow v t
+  unfolding isBelow
+  no-below h = sym (not-both (isNumber v) (withinStops t) _ (rw (beside .number, beside .within) at h))
+
+  pub no-above : n && w ≡ false → false ≡ isAbove v t
+  unfolding isAbove
+  no-above h = sym (not-both (isNumber v) (withinStops t) _ (rw (beside .number, beside .within) at h))

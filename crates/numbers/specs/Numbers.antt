@@ -1,0 +1,74 @@
+-- Thresholds and signed values as numbers: d.dddd times a power of ten.
+use Prim.Native.Nat.{ℕ, suc, _+_, _*_, _/_, _^_}
+use mathlib.Core.List.{List, _∷_, _++_}
+use mathlib.Core.Bool.{Bool, true, false, _&&_, _||_}
+use lib.Dec.{leb, eqb}
+use lib.IntN.{ℤ, pos, negsuc, negℤ, natAbs, _*ℤ_}
+use lib.Signed.{ltZ, leZ}
+use Prim.Native.Char.{code}
+use Rattle.text.specs.Digits.{dig}
+use Rattle.numbers.specs.declared.threshold.Threshold.{Threshold}
+use Rattle.numbers.specs.declared.value.Value.{Value}
+
+-- "magnitude 10000 to 99999"
+abbrev pub fiveDigits : ℕ → Bool
+fiveDigits m = leb 10000 m && leb m 99999
+
+abbrev pub between : ℤ → ℤ → ℤ → Bool
+between low high e = leZ low e && leZ e high
+
+-- "1.0000E-20 to 9.9999E+20"
+abbrev pub withinStops : Threshold → Bool
+withinStops t = fiveDigits (t .mantissa) && between (negsuc 19) (pos 20) (t .exponent)
+
+-- five digits, of either sign, and an exponent of two digits
+abbrev pub isFive : Value → Bool
+isFive v = fiveDigits (natAbs (v .mantissa)) && between (negsuc 98) (pos 99) (v .exponent)
+
+-- "Zero has exponent 0."
+abbrev pub isZero : Value → Bool
+isZero v = eqb (natAbs (v .mantissa)) 0 && eqb (natAbs (v .exponent)) 0
+
+abbrev pub isNumber : Value → Bool
+isNumber v = isZero v || isFive v
+
+-- ten to the e as a fraction: what stands over its line, and what under it
+abbrev pub tens : ℤ → ℕ
+tens (pos n) = 10 ^ n
+tens (negsuc n) = 1
+
+abbrev pub tenths : ℤ → ℕ
+tenths (pos n) = 1
+tenths (negsuc n) = 10 ^ suc n
+
+-- m times ten to the e is less than n times ten to the f
+unfoldable pub less : ℤ → ℤ → ℤ → ℤ → Bool
+less m e n f = ltZ (m *ℤ pos (tens e * tenths f)) (n *ℤ pos (tens f * tenths e))
+
+-- the value, a number, is less than the threshold, one within its stops
+unfoldable pub isBelow : Value → Threshold → Bool
+isBelow v t = isNumber v && (withinStops t && less (v .mantissa) (v .exponent) (pos (t .mantissa)) (t .exponent))
+
+unfoldable pub isAbove : Value → Threshold → Bool
+isAbove v t = isNumber v && (withinStops t && less (pos (t .mantissa)) (t .exponent) (v .mantissa) (v .exponent))
+
+-- a magnitude with the sign of z
+abbrev pub signed : ℤ → ℕ → ℤ
+signed (pos n) m = pos m
+signed (negsuc n) m = negℤ (pos m)
+
+-- "sign (+ for zero)"
+abbrev pub signByte : ℤ → ℕ
+signByte (pos n) = code "+"
+signByte (negsuc n) = code "-"
+
+-- "d.ddddE, sign, two digits"
+unfoldable pub scientific : ℕ → ℤ → List ℕ
+scientific m e = dig 1 (m / 10000) ++ (code "." ∷ (dig 4 m ++ (code "E" ∷ signByte e ∷ dig 2 (natAbs e))))
+
+abbrev pub thresholdText : Threshold → List ℕ
+thresholdText t = scientific (t .mantissa) (t .exponent)
+
+-- "sign (+ for zero), d.ddddE, sign, two digits"
+abbrev pub valueText : Value → List ℕ
+valueText v = signByte (v .mantissa) ∷ scientific (natAbs (v .mantissa)) (v .exponent)

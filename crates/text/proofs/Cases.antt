@@ -1,0 +1,32 @@
+-- Two numbers one way round or the other, and what a test that holds tells.
+use Prim.Native.Nat.{ℕ, _≤_, _<_}
+use mathlib.Core.Path.{_≡_, refl, sym, subst}
+use mathlib.Core.Bool.{Bool, true, false, cond, _&&_}
+use mathlib.Core.Logic.{_⊎_, inl, inr}
+use borrow.Author.Tests.{ltb-true, ltb-false, leb-true}
+use lib.Dec.{T, leb, ltb}
+
+pub below : (a b : ℕ) → (a < b) ⊎ (b ≤ a)
+below a b = go (ltb a b) refl
+  where
+    go : (t : Bool) → ltb a b ≡ t → (a < b) ⊎ (b ≤ a)
+    go true e = inl (ltb-true a b e)
+    go false e = inr (ltb-false a b e)
+
+pub true-or-false : (t : Bool) → (t ≡ true) ⊎ (t ≡ false)
+true-or-false true = inl refl
+true-or-false false = inr refl
+
+-- both tests of a conjunction that holds
+pub and-true : (a b : Bool) → a && b ≡ true → (a ≡ true) × (b ≡ true)
+and-true true b e = (refl, e)
+and-true false b e = absurd (subst T (sym e) tt)
+
+-- either way of a test
+pub cond-cases : {A : Type 0} (P : A → Type 0) (t : Bool) (x y : A) → (t ≡ true → P x) → (t ≡ false → P y) → P (cond t x y)
+cond-cases P true x y f g = f refl
+cond-cases P false x y f g = g refl
+
+-- a number within limits that a test holds to
+pub ranged : (low high m : ℕ) → leb low m && leb m high ≡ true → (low ≤ m) × (m ≤ high)
+ranged low high m h = let b = and-true (leb low m) (leb m high) h in (leb-true low m (b .0), leb-true m high (b .1))

@@ -1,0 +1,65 @@
+-- The threshold reader: what each exit of its definitions asks, and its digits put together from two runs.
+use Prim.Native.Nat.{ℕ, _+_, _-_, _≤_, _<_}
+use Prim.Native.Char.{code}
+use mathlib.Core.Path.{_≡_, refl, sym, ap, ap₂, _∙_}
+use mathlib.Core.List.{List, [], _++_}
+use mathlib.Core.Bool.{Bool, true, false}
+use native.Mathlib.Omega.{arith}
+use native.Mathlib.Nat.{zero-add}
+use borrow.Author.Tests.{le-leb, lt-leb}
+use lib.ListN.{length, drop, take, length-append}
+use lib.Seq.{paste, take-paste, length-paste}
+use Rattle.numerals.specs.Digits.{part, lead, rest, headIs}
+use Rattle.numerals.specs.Threshold.{afterPlus, powerOf, weighed, judged, pointed, thresholdOf}
+use Rattle.numerals.specs.declared.threshold.ThresholdNumeral.the-variants.{Malformed}
+use Rattle.numerals.proofs.Runs.{drop-one, head-in, run-lead, run-rest, part-length, part-none}
+
+module _ (whole fraction s : List ℕ) where
+  pub judged-none : length (whole ++ fraction) < 1 → Malformed ≡ judged whole fraction s
+  unfolding judged
+  judged-none h = rw (lt-leb _ _ h)
+
+  pub judged-long : 12 < length (whole ++ fraction) → Malformed ≡ judged whole fraction s
+  unfolding judged
+  judged-long h = rw (le-leb 1 (length (whole ++ fraction)) (omega arith), lt-leb _ _ h)
+
+  pub judged-is : 1 ≤ length (whole ++ fraction) → length (whole ++ fraction) ≤ 12
+      → weighed (whole ++ fraction) (length fraction) (powerOf s) ≡ judged whole fraction s
+  unfolding judged
+  judged-is h l = rw (le-leb _ _ h, le-leb _ _ l)
+
+-- two runs written one behind the other over twelve places
+pub two-runs : (z x y : List ℕ) (n m : ℕ) → length z ≡ 12 → n ≤ length x → m ≤ length y → n + m ≤ 12
+    → part 0 (n + m) (paste (paste z 0 x n) n y m) ≡ take n x ++ take m y
+two-runs z x y n m hz hx hy h =
+    let a = paste z 0 x n in
+    let long : length a ≡ 12 = length-paste z 0 x n (omega arith) hx ∙ hz in
+    let front : take n a ≡ take n x = ap (λ (k : ℕ). take k a) (sym (zero-add n)) ∙ take-paste z 0 x n (omega arith) hx in
+    ap (λ (k : ℕ). take k (paste a n y m)) (let k : n + m - 0 ≡ n + m = omega arith in k)
+    ∙ take-paste a n y m (omega (arith, long)) hy ∙ ap (λ (l : List ℕ). l ++ take m y) front
+
+-- how many digits there are
+pub count-runs : (s : List ℕ) (a p b q : ℕ) → a ≤ p → p ≤ b → b ≤ q → q ≤ length s → length (part a p s ++ part b q s) ≡ (p - a) + (q - b)
+count-runs s a p b q h i j k =
+    length-append (part a p s) (part b q s) ∙ ap₂ _+_ (part-length a p s h (omega arith)) (part-length b q s j k)
+
+-- with a point at p, and the digits behind it up to q
+pub pointed-there : (s : List ℕ) (a p q : ℕ) → a ≤ length s → p ≡ a + length (lead (drop a s)) → headIs (code ".") (drop p s) ≡ true
+    → q ≡ p + 1 + length (lead (drop (p + 1) s)) → judged (part a p s) (part (p + 1) q s) (drop q s) ≡ pointed (lead (drop a s)) (rest (drop a s))
+unfolding pointed
+pointed-there s a p q h e t f =
+    let i = head-in (code ".") p s t in
+    rw (run-rest s a h p e, t, drop-one p s, run-rest s (p + 1) (omega arith) q f, run-lead s (p + 1) (omega arith) q f, run-lead s a h p e)
+
+pub pointed-not : (s : List ℕ) (a p : ℕ) → a ≤ length s → p ≡ a + length (lead (drop a s)) → headIs (code ".") (drop p s) ≡ false
+    → judged (part a p s) (part p p s) (drop p s) ≡ pointed (lead (drop a s)) (rest (drop a s))
+unfolding pointed
+pointed-not s a p h e t = rw (run-rest s a h p e, t, part-none p p s (omega arith), run-lead s a h p e)
+
+pub plus-there : (s : List ℕ) → headIs (code "+") s ≡ true → pointed (lead (drop 1 s)) (rest (drop 1 s)) ≡ thresholdOf s
+unfolding thresholdOf afterPlus
+plus-there s t = rw t
+
+pub plus-not : (s : List ℕ) → headIs (code "+") s ≡ false → pointed (lead s) (rest s) ≡ thresholdOf s
+unfolding thresholdOf afterPlus
+plus-not s t = rw t

@@ -1,0 +1,6 @@
+pub mod Runs
+pub mod Wholes
+pub mod Powers
+pub mod Judging
+pub mod Stops
+pub mod Rows

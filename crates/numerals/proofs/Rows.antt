@@ -1,0 +1,70 @@
+-- The starred threshold and factor rows of 01, "Lines on either side", as one statement over a list of them.
+use Prim.Native.Nat.{ℕ}
+use Prim.Native.String.{String, [] as []ˢ, _∷_ as _∷ˢ_}
+use Prim.Native.Char.{code}
+use mathlib.Core.Path.{_≡_, refl}
+use mathlib.Core.List.{List, [], _∷_, _++_, map}
+use Rattle.text.specs.Digits.{bare, factorText}
+use Rattle.numbers.specs.Numbers.{scientific, thresholdText}
+use Rattle.numbers.specs.Rounding.{climbWithin, five, power, rounded, fittedTo}
+use Rattle.numerals.specs.Digits.{lead, rest, headIs, value}
+use Rattle.numerals.specs.Whole.{numberOf, behindPoint, factorOf}
+use Rattle.numerals.specs.Threshold.{afterPlus, signedPower, powerOf, judged, pointed, thresholdOf}
+use Rattle.numerals.specs.declared.threshold.ThresholdNumeral.{ThresholdNumeral}
+use Rattle.numerals.specs.declared.threshold.ThresholdNumeral.the-variants.{Within, Malformed as NoThreshold, OutOfRange}
+use Rattle.numerals.specs.declared.whole.Numeral.{Numeral}
+use Rattle.numerals.specs.declared.whole.Numeral.the-variants.{Number, Malformed}
+
+abbrev pub ascii : String → List ℕ
+ascii []ˢ = []
+ascii (c ∷ˢ s) = code c ∷ ascii s
+
+-- what the box answers to a threshold that is sent: it as written, or the error word
+abbrev pub thresholdSays : ThresholdNumeral → List ℕ
+thresholdSays (Within t) = thresholdText t
+thresholdSays NoThreshold = ascii "0001"
+thresholdSays OutOfRange = ascii "0010"
+
+abbrev pub factorSays : Numeral → List ℕ
+factorSays (Number t) = factorText t
+factorSays Malformed = ascii "0001"
+
+pub data Kind : Type 0 where
+  threshold : Kind
+  factor : Kind
+
+pub record Row : Type 0 where
+  pub kind : Kind
+  pub sent : String
+  pub said : String
+
+abbrev pub says : Kind → List ℕ → List ℕ
+says threshold s = thresholdSays (thresholdOf s)
+says factor s = factorSays (factorOf s)
+
+abbrev pub row : Kind → String → String → Row
+row k s t = record { kind = k; sent = s; said = t }
+
+abbrev pub rows : List Row
+rows =
+    row threshold "6.80E-3" "6.8000E-03"
+    ∷ row threshold "123456" "1.2346E+05"
+    ∷ row threshold "999994" "9.9999E+05"
+    ∷ row threshold "999995" "1.0000E+06"
+    ∷ row threshold "9.99995E-21" "1.0000E-20"
+    ∷ row threshold "9.9999E-21" "0010"
+    ∷ row threshold "9.99994E20" "9.9999E+20"
+    ∷ row threshold "9.99995E20" "0010"
+    ∷ row threshold "0.0" "0010"
+    ∷ row threshold "." "0001"
+    ∷ row threshold "5." "5.0000E+00"
+    -- the setting's own limits, 0.100 to 10.000, refuse 0.099 on the floor above
+    ∷ row factor "0.099" "0.099"
+    ∷ row factor "1" "1.000"
+    ∷ row factor "0.1" "0.100"
+    ∷ row factor "10" "10.000"
+    ∷ []
+
+pub rows-hold : map (λ (r : Row). says (r .kind) (ascii (r .sent))) rows ≡ map (λ (r : Row). ascii (r .said)) rows
+unfolding bare scientific climbWithin five power rounded fittedTo lead rest headIs value numberOf behindPoint factorOf afterPlus signedPower powerOf judged pointed thresholdOf
+rows-hold = refl

@@ -1,0 +1,71 @@
+-- `threshold::digits_from`: the run of digits, and where a point stands behind it the run behind the point.
+use Prim.Native.Nat.{ℕ, _+_, _≤_}
+use mathlib.Core.Path.{_≡_, sym, _∙_}
+use Prim.Native.Char.{code}
+use Rattle.numerals.proofs.Runs.{head-in, run-in}
+use Rattle.numerals.proofs.Judging.{pointed-there, pointed-not}
+use borrow.Author.Needs.{needs}
+use native.Mathlib.Omega.{arith}
+use Rattle.numerals.proofs.threshold.digits_from.Statement.{statement}
+use Rattle.numerals.proofs.threshold.digits_from.Tie as tie
+
+run-requires : tie.Need-run-requires
+run-requires c κs = search needs
+
+is-at-requires : tie.Need-is-at-requires
+is-at-requires c κs = search needs
+
+add-run : tie.Need-add-run
+add-run c =
+    let a = c .before .before .before .before .args in
+    omega (arith, head-in (code ".") (c .before .before .run .result) (a .s .now) (sym (c .before .is-at .ensures) ∙ c .if1 .taken))
+
+run-requires-2 : tie.Need-run-requires-2
+run-requires-2 c κs =
+    let a = c .before .before .before .before .args in
+    omega (arith, head-in (code ".") (c .before .before .run .result) (a .s .now) (sym (c .before .is-at .ensures) ∙ c .if1 .taken))
+
+add-judge : tie.Need-add-judge
+add-judge c = search needs
+
+judge-requires : tie.Need-judge-requires
+judge-requires c κs =
+    let p = c .before .before .before .run in
+    let a = c .before .before .before .before .before .args in
+    let i = head-in (code ".") (p .result) (a .s .now) (sym (c .before .before .is-at .ensures) ∙ c .before .if1 .taken) in
+    omega (arith, p .ensures, c .run2 .ensures, run-in (a .s .now) (p .result + 1) (omega arith))
+
+returns : tie.Need-returns
+returns c =
+    let r = c .before .before .before .before in
+    let a = r .before .before .args in
+    c .judge .ensures
+    ∙ pointed-there (a .s .now) (a .a) (r .run .result) (c .before .run2 .result) (omega arith) (r .run .ensures)
+    (sym (c .before .before .before .is-at .ensures) ∙ c .before .before .if1 .taken) (c .before .run2 .ensures)
+
+judge-requires-2 : tie.Need-judge-requires-2
+judge-requires-2 c κs =
+    let p = c .before .before .run in
+    let a = c .before .before .before .before .args in
+    omega (arith, p .ensures, run-in (a .s .now) (a .a) (omega arith))
+
+returns-2 : tie.Need-returns-2
+returns-2 c =
+    let r = c .before .before .before in
+    let a = r .before .before .args in
+    c .judge2 .ensures
+    ∙ pointed-not (a .s .now) (a .a) (r .run .result) (omega arith) (r .run .ensures) (sym (c .before .before .is-at .ensures) ∙ c .before .if1 .left)
+
+pub digits-from-spec : {M : Type 1} → statement M
+digits-from-spec =
+    tie.close
+    (tie.spec
+    run-requires
+    is-at-requires
+    add-run
+    run-requires-2
+    add-judge
+    judge-requires
+    returns
+    judge-requires-2
+    returns-2)

@@ -1,0 +1,61 @@
+-- "A threshold is an optional plus, up to 12 digits with at most one point and at least one digit, then optionally E, an
+-- optional sign and one or two digits. It is rounded to five significant digits, half upwards; zero, or a result outside
+-- 1.0000E-20 to 9.9999E+20, is 0010." (01, "Settings")
+use Prim.Native.Nat.{ℕ}
+use Prim.Native.Char.{code}
+use mathlib.Core.List.{List, [], _∷_, _++_}
+use mathlib.Core.Bool.{Bool, true, false, cond}
+use lib.ListN.{length, drop}
+use lib.Dec.{eqb}
+use lib.IntN.{ℤ, pos, negℤ, _-ℤ_}
+use Rattle.numerals.specs.Digits.{lead, rest, headIs, count, value}
+use Rattle.numerals.specs.Whole.{numberOf}
+use Rattle.numbers.specs.Rounding.{fittedTo}
+use Rattle.numbers.specs.declared.threshold.Fitted.{Fitted}
+use Rattle.numbers.specs.declared.threshold.Fitted.the-variants.{Within as Fits, Outside}
+use Rattle.numerals.specs.declared.threshold.ThresholdNumeral.{ThresholdNumeral}
+use Rattle.numerals.specs.declared.threshold.ThresholdNumeral.the-variants.{Within, Malformed, OutOfRange}
+use Rattle.numerals.specs.declared.threshold.Power.{Power}
+use Rattle.numerals.specs.declared.threshold.Power.the-variants.{Ten, NoPower}
+use Rattle.numerals.specs.declared.whole.Numeral.{Numeral}
+use Rattle.numerals.specs.declared.whole.Numeral.the-variants.{Number as Digits, Malformed as NoDigits}
+
+-- "an optional plus": what stands behind it
+unfoldable pub afterPlus : List ℕ → List ℕ
+afterPlus s = cond (headIs (code "+") s) (drop 1 s) s
+
+abbrev pub withSign : Bool → Numeral → Power
+withSign minus (Digits n) = Ten (cond minus (negℤ (pos n)) (pos n))
+withSign minus NoDigits = NoPower
+
+-- "an optional sign and one or two digits"
+unfoldable pub signedPower : List ℕ → Power
+signedPower s =
+    cond (headIs (code "-") s) (withSign true (numberOf 2 (drop 1 s)))
+    (cond (headIs (code "+") s) (withSign false (numberOf 2 (drop 1 s))) (withSign false (numberOf 2 s)))
+
+-- "then optionally E": without it the power is 0
+unfoldable pub powerOf : List ℕ → Power
+powerOf s = cond (eqb (length s) 0) (Ten (pos 0)) (cond (headIs (code "E") s) (signedPower (drop 1 s)) NoPower)
+
+-- "zero, or a result outside 1.0000E-20 to 9.9999E+20" is a fault of value
+abbrev pub concluded : Fitted → ThresholdNumeral
+concluded (Fits t) = Within t
+concluded Outside = OutOfRange
+
+-- all digits, k of them behind the point, and the power
+abbrev pub weighed : List ℕ → ℕ → Power → ThresholdNumeral
+weighed digits k (Ten e) = concluded (fittedTo (value 0 digits) (e -ℤ pos k))
+weighed digits k NoPower = Malformed
+
+-- "up to 12 digits .. and at least one digit", those before the point and those behind it, and what follows them
+unfoldable pub judged : List ℕ → List ℕ → List ℕ → ThresholdNumeral
+judged whole fraction s =
+    cond (count 1 12 (whole ++ fraction)) (weighed (whole ++ fraction) (length fraction) (powerOf s)) Malformed
+
+-- "with at most one point"
+unfoldable pub pointed : List ℕ → List ℕ → ThresholdNumeral
+pointed whole s = cond (headIs (code ".") s) (judged whole (lead (drop 1 s)) (rest (drop 1 s))) (judged whole [] s)
+
+unfoldable pub thresholdOf : List ℕ → ThresholdNumeral
+thresholdOf s = pointed (lead (afterPlus s)) (rest (afterPlus s))

@@ -1,0 +1,162 @@
+// Thresholds.
+ghost use mathlib.Core.Path.{_≡_};
+ghost use mathlib.Core.List.{_++_};
+ghost use Prim.Native.Nat.{_≤_, _+_, _-_};
+ghost use lib.ListN.{length, drop};
+ghost use lib.Seq.{paste};
+ghost use Rattle.numerals.specs.Digits.{part, lead, rest, value};
+ghost use Rattle.numerals.specs.Whole.{numberOf};
+ghost use Rattle.numbers.specs.Rounding.{fittedTo};
+ghost use Rattle.numerals.specs.Threshold.{withSign, signedPower, powerOf, concluded, judged, pointed, thresholdOf};
+use crate::digits::is_at;
+use crate::digits::part;
+use crate::digits::run;
+use crate::digits::value;
+use crate::whole::Numeral;
+use crate::whole::number;
+use numbers::threshold::Fitted;
+use numbers::threshold::Threshold;
+
+// What a threshold reads as.
+pub enum ThresholdNumeral {
+    Within(Threshold),
+    Malformed,
+    OutOfRange,
+}
+
+// The power of ten that a threshold ends with.
+enum Power {
+    Ten(i32),
+    NoPower,
+}
+
+// The digits from `at` on as a power of ten.
+fn power_of(s: &[u8], at: usize, minus: bool) -> Power
+    requires { ⌜ at ≤ length (now s) ⌝ }
+    ensures { λ r. ⌜ r ≡ withSign minus (numberOf 2 (drop at (now (s .entry)))) ⌝ }
+{
+    let t = number(s, at, 2);
+    match t {
+        Numeral::Malformed => Power::NoPower,
+        Numeral::Number(n) => {
+            if minus {
+                Power::Ten(-(n as i32))
+            } else {
+                Power::Ten(n as i32)
+            }
+        }
+    }
+}
+
+fn signed_power(s: &[u8], at: usize) -> Power
+    requires { ⌜ at ≤ length (now s) ⌝ }
+    ensures { λ r. ⌜ r ≡ signedPower (drop at (now (s .entry))) ⌝ }
+{
+    if is_at(s, at, b'-') {
+        return power_of(s, at + 1, true);
+    }
+    if is_at(s, at, b'+') {
+        return power_of(s, at + 1, false);
+    }
+    power_of(s, at, false)
+}
+
+// What stands behind the digits: nothing, or E and a power.
+fn power_at(s: &[u8], at: usize) -> Power
+    requires { ⌜ at ≤ length (now s) ⌝ }
+    ensures { λ r. ⌜ r ≡ powerOf (drop at (now (s .entry))) ⌝ }
+{
+    if at == s.len() {
+        return Power::Ten(0);
+    }
+    if is_at(s, at, b'E') {
+        return signed_power(s, at + 1);
+    }
+    Power::NoPower
+}
+
+// d with s from a up to e written over it from k on.
+fn copied(d: [u8; 12], k: usize, s: &[u8], a: usize, e: usize) -> [u8; 12]
+    requires { ⌜ (a ≤ e) × (e ≤ length (now s)) × (k + (e - a) ≤ 12) ⌝ }
+    ensures { λ r. ⌜ r ≡ paste d k (drop a (now (s .entry))) (e - a) ⌝ }
+{
+    let mut r = d;
+    let mut i: usize = 0;
+    let n = e - a;
+    while i < n {
+        r[k + i] = s[a + i];
+        i += 1;
+    }
+    r
+}
+
+// The number that the digits from a up to p and from b up to q make, up to twelve of them.
+fn gathered(s: &[u8], a: usize, p: usize, b: usize, q: usize) -> u64
+    requires { ⌜ (a ≤ p) × (p ≤ b) × (b ≤ q) × (q ≤ length (now s)) × (p - a + (q - b) ≤ 12) ⌝ }
+    ensures { λ r. ⌜ (r ≡ value 0 (part a p (now (s .entry)) ++ part b q (now (s .entry)))) × (r ≤ 23000000000000) ⌝ }
+{
+    let w = p - a;
+    let zeros = [0u8; 12];
+    let whole = copied(zeros, 0, s, a, p);
+    let digits = copied(whole, w, s, b, q);
+    value(&digits, 0, w + (q - b))
+}
+
+// The number n times ten to the x as a threshold.
+fn conclude(n: u64, x: i32) -> ThresholdNumeral
+    ensures { λ r. ⌜ r ≡ concluded (fittedTo n x) ⌝ }
+{
+    let f = Threshold::fitted(n, x);
+    match f {
+        Fitted::Within(t) => ThresholdNumeral::Within(t),
+        Fitted::Outside => ThresholdNumeral::OutOfRange,
+    }
+}
+
+// The digits from a up to p, those from b up to q behind the point, and what follows q.
+fn judge(s: &[u8], a: usize, p: usize, b: usize, q: usize) -> ThresholdNumeral
+    requires { ⌜ (a ≤ p) × (p ≤ b) × (b ≤ q) × (q ≤ length (now s)) ⌝ }
+    ensures { λ r. ⌜ r ≡ judged (part a p (now (s .entry))) (part b q (now (s .entry))) (drop q (now (s .entry))) ⌝ }
+{
+    let f = q - b;
+    let n = p - a + f;
+    if n < 1 {
+        return ThresholdNumeral::Malformed;
+    }
+    if 12 < n {
+        return ThresholdNumeral::Malformed;
+    }
+    let t = power_at(s, q);
+    match t {
+        Power::NoPower => ThresholdNumeral::Malformed,
+        Power::Ten(e) => conclude(gathered(s, a, p, b, q), e - (f as i32)),
+    }
+}
+
+// The digits from a on, with or without a point.
+fn digits_from(s: &[u8], a: usize) -> ThresholdNumeral
+    requires { ⌜ a ≤ length (now s) ⌝ }
+    ensures { λ r. ⌜ r ≡ pointed (lead (drop a (now (s .entry)))) (rest (drop a (now (s .entry)))) ⌝ }
+{
+    let p = run(s, a);
+    if is_at(s, p, b'.') {
+        let q = run(s, p + 1);
+        return judge(s, a, p, p + 1, q);
+    }
+    judge(s, a, p, p, p)
+}
+
+fn threshold_in(s: &[u8]) -> ThresholdNumeral
+    ensures { λ r. ⌜ r ≡ thresholdOf (now (s .entry)) ⌝ }
+{
+    if is_at(s, 0, b'+') {
+        return digits_from(s, 1);
+    }
+    digits_from(s, 0)
+}
+
+pub fn read_threshold(s: &[u8], start: usize, end: usize) -> ThresholdNumeral
+    ensures { λ r. ⌜ r ≡ thresholdOf (part start end (now (s .entry))) ⌝ }
+{
+    threshold_in(part(s, start, end))
+}

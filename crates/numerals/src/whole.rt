@@ -1,0 +1,92 @@
+// Whole numbers and factors.
+ghost use mathlib.Core.Path.{_≡_};
+ghost use Prim.Native.Nat.{_≤_, _<_, _-_, _*_, _^_};
+ghost use lib.ListN.{length, drop};
+ghost use Rattle.numerals.specs.Digits.{part};
+ghost use Rattle.numerals.specs.Whole.{numberOf, wholeOf, behindPoint, factorOf};
+use crate::digits::is_at;
+use crate::digits::part;
+use crate::digits::run;
+use crate::digits::value;
+
+// What a whole number or a factor reads as; a factor counts thousandths.
+pub enum Numeral {
+    Number(u32),
+    Malformed,
+}
+
+// One to `most` digits from `at` on, and nothing behind them.
+pub(crate) fn number(s: &[u8], at: usize, most: usize) -> Numeral
+    requires { ⌜ (at ≤ length (now s)) × (most ≤ 3) ⌝ }
+    ensures { λ r. ⌜ r ≡ numberOf most (drop at (now (s .entry))) ⌝ }
+{
+    let e = run(s, at);
+    if e < s.len() {
+        return Numeral::Malformed;
+    }
+    let k = e - at;
+    if k < 1 {
+        return Numeral::Malformed;
+    }
+    if most < k {
+        return Numeral::Malformed;
+    }
+    Numeral::Number(value(s, at, e) as u32)
+}
+
+pub fn read_whole(s: &[u8], start: usize, end: usize) -> Numeral
+    ensures { λ r. ⌜ r ≡ wholeOf (part start end (now (s .entry))) ⌝ }
+{
+    number(part(s, start, end), 0, 3)
+}
+
+// m, of k digits behind the point, in thousandths.
+fn thousandths(m: u32, k: usize) -> u32
+    requires { ⌜ (m < 1000) × (1 ≤ k) × (k ≤ 3) ⌝ }
+    ensures { λ r. ⌜ (r ≡ m * 10 ^ (3 - k)) × (r < 100000) ⌝ }
+{
+    if k == 1 {
+        return m * 100;
+    }
+    if k == 2 {
+        return m * 10;
+    }
+    m
+}
+
+// n, and what follows its digits from p on: nothing, or a point and one to three digits.
+fn behind(n: u32, s: &[u8], p: usize) -> Numeral
+    requires { ⌜ (n ≤ 2300) × (p ≤ length (now s)) ⌝ }
+    ensures { λ r. ⌜ r ≡ behindPoint n (drop p (now (s .entry))) ⌝ }
+{
+    if p == s.len() {
+        return Numeral::Number(n * 1000);
+    }
+    if is_at(s, p, b'.') {
+        let t = number(s, p + 1, 3);
+        return match t {
+            Numeral::Malformed => Numeral::Malformed,
+            Numeral::Number(m) => Numeral::Number(n * 1000 + thousandths(m, s.len() - (p + 1))),
+        };
+    }
+    Numeral::Malformed
+}
+
+fn factor_in(s: &[u8]) -> Numeral
+    ensures { λ r. ⌜ r ≡ factorOf (now (s .entry)) ⌝ }
+{
+    let p = run(s, 0);
+    if p < 1 {
+        return Numeral::Malformed;
+    }
+    if 2 < p {
+        return Numeral::Malformed;
+    }
+    behind(value(s, 0, p) as u32, s, p)
+}
+
+pub fn read_factor(s: &[u8], start: usize, end: usize) -> Numeral
+    ensures { λ r. ⌜ r ≡ factorOf (part start end (now (s .entry))) ⌝ }
+{
+    factor_in(part(s, start, end))
+}

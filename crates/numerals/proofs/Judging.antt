@@ -10,7 +10,7 @@ use borrow.Author.Tests.{le-leb, lt-leb}
 use lib.ListN.{length, drop, take, length-append}
 use lib.Seq.{paste, take-paste, length-paste}
 use Rattle.numerals.specs.Digits.{part, lead, rest, headIs}
-use Rattle.numerals.specs.Threshold.{afterPlus, powerOf, weighed, judged, pointed, thresholdOf}
+use Rattle.numerals.specs.Threshold.{afterPlus, powerOf, weighed, judged, fraction, afterFraction, thresholdOf}
 use Rattle.numerals.specs.declared.threshold.ThresholdNumeral.the-variants.{Malformed}
 use Rattle.numerals.proofs.Runs.{drop-one, head-in, run-lead, run-rest, part-length, part-none}
 
@@ -43,23 +43,25 @@ pub count-runs : (s : List ℕ) (a p b q : ℕ) → a ≤ p → p ≤ b → b �
 count-runs s a p b q h i j k =
     length-append (part a p s) (part b q s) ∙ ap₂ _+_ (part-length a p s h (omega arith)) (part-length b q s j k)
 
--- with a point at p, and the digits behind it up to q
-pub pointed-there : (s : List ℕ) (a p q : ℕ) → a ≤ length s → p ≡ a + length (lead (drop a s)) → headIs (code ".") (drop p s) ≡ true
-    → q ≡ p + 1 + length (lead (drop (p + 1) s)) → judged (part a p s) (part (p + 1) q s) (drop q s) ≡ pointed (lead (drop a s)) (rest (drop a s))
-unfolding pointed
-pointed-there s a p q h e t f =
-    let i = head-in (code ".") p s t in
-    rw (run-rest s a h p e, t, drop-one p s, run-rest s (p + 1) (omega arith) q f, run-lead s (p + 1) (omega arith) q f, run-lead s a h p e)
+-- the digits from a on end at p; with a point there, and the digits behind it up to q
+module _ (s : List ℕ) (a p : ℕ) (h : a ≤ length s) (e : p ≡ a + length (lead (drop a s))) where
+  pub point-there : (q : ℕ) → headIs (code ".") (drop p s) ≡ true → q ≡ p + 1 + length (lead (drop (p + 1) s))
+      → judged (part a p s) (part (p + 1) q s) (drop q s) ≡ judged (lead (drop a s)) (fraction (rest (drop a s))) (afterFraction (rest (drop a s)))
+  unfolding fraction afterFraction
+  point-there q t f =
+      let i = head-in (code ".") p s t in
+      rw (run-rest s a h p e, t, drop-one p s, run-rest s (p + 1) (omega arith) q f, run-lead s (p + 1) (omega arith) q f, run-lead s a h p e)
 
-pub pointed-not : (s : List ℕ) (a p : ℕ) → a ≤ length s → p ≡ a + length (lead (drop a s)) → headIs (code ".") (drop p s) ≡ false
-    → judged (part a p s) (part p p s) (drop p s) ≡ pointed (lead (drop a s)) (rest (drop a s))
-unfolding pointed
-pointed-not s a p h e t = rw (run-rest s a h p e, t, part-none p p s (omega arith), run-lead s a h p e)
+  pub point-not : headIs (code ".") (drop p s) ≡ false
+      → judged (part a p s) (part p p s) (drop p s) ≡ judged (lead (drop a s)) (fraction (rest (drop a s))) (afterFraction (rest (drop a s)))
+  unfolding fraction afterFraction
+  point-not t = rw (run-rest s a h p e, t, part-none p p s (omega arith), run-lead s a h p e)
 
-pub plus-there : (s : List ℕ) → headIs (code "+") s ≡ true → pointed (lead (drop 1 s)) (rest (drop 1 s)) ≡ thresholdOf s
-unfolding thresholdOf afterPlus
-plus-there s t = rw t
+module _ (s : List ℕ) where
+  pub plus-there : headIs (code "+") s ≡ true → judged (lead (drop 1 s)) (fraction (rest (drop 1 s))) (afterFraction (rest (drop 1 s))) ≡ thresholdOf s
+  unfolding thresholdOf afterPlus
+  plus-there t = rw t
 
-pub plus-not : (s : List ℕ) → headIs (code "+") s ≡ false → pointed (lead s) (rest s) ≡ thresholdOf s
-unfolding thresholdOf afterPlus
-plus-not s t = rw t
+  pub plus-not : headIs (code "+") s ≡ false → judged (lead s) (fraction (rest s)) (afterFraction (rest s)) ≡ thresholdOf s
+  unfolding thresholdOf afterPlus
+  plus-not t = rw t

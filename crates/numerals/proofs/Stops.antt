@@ -3,7 +3,7 @@ use Prim.Native.Nat.{ℕ, _^_, _≤_, _<_}
 use Prim.Native.Char.{code}
 use mathlib.Core.Path.{_≡_, refl, sym, ap, _∙_, subst}
 use mathlib.Core.List.{List, [], _++_}
-use mathlib.Core.Bool.{Bool, true, false}
+use mathlib.Core.Bool.{Bool, true, false, cond}
 use native.Mathlib.Omega.{arith}
 use lib.ListN.{length, drop}
 use lib.IntN.{ℤ, pos, _-ℤ_}
@@ -16,20 +16,51 @@ use Rattle.numbers.specs.declared.threshold.Fitted.{Fitted}
 use Rattle.numbers.specs.declared.threshold.Fitted.the-variants.{Within as Fits, Outside}
 use Rattle.numerals.proofs.Runs.{AllDigits, lead-digits, digits-join, value-below}
 use Rattle.numerals.specs.Digits.{lead, rest, headIs, count, value}
-use Rattle.numerals.specs.Threshold.{afterPlus, powerOf, concluded, weighed, judged, pointed, thresholdOf}
+use Rattle.numerals.specs.Threshold.{afterPlus, fraction, powerOf, concluded, weighed, judged, wholePart, fractionPart, powerPart, thresholdOf}
 use Rattle.numerals.specs.declared.threshold.ThresholdNumeral.{ThresholdNumeral}
 use Rattle.numerals.specs.declared.threshold.ThresholdNumeral.the-variants.{Within, Malformed, OutOfRange}
 use Rattle.numerals.specs.declared.threshold.Power.{Power}
 use Rattle.numerals.specs.declared.threshold.Power.the-variants.{Ten, NoPower}
 
--- the number that was sent: its digits, of which some stand behind the point, and its power of ten, which those move down
-pub record Sent (s : List ℕ) (n : ℕ) (x : ℤ) : Type 0 where
-  pub whole : List ℕ
-  pub fraction : List ℕ
-  pub tail : List ℕ
+fits-of : (f : Fitted) (t : Threshold) → concluded f ≡ Within t → f ≡ Fits t
+fits-of (Fits u) t r = ap Fits (let same : u ≡ t = cc in same)
+fits-of Outside t r = absurd (let z : _≡_ {A = ℕ} 0 1 = cc in omega arith)
+
+-- a threshold t that was read from s: the power that was sent, and t is what the digits fit, moved by those behind the point
+pub record Sent (s : List ℕ) (t : Threshold) : Type 0 where
   pub e : ℤ
-  pub digits : AllDigits (whole ++ fraction)
-  pub few : length (whole ++ fraction) ≤ 12
-  pub size : n ≡ value 0 (whole ++ fraction)
-  pub power : powerOf tail ≡ Ten e
-  pub moved : x ≡ e -ℤ pos (length fraction)
+  pub power : powerOf (powerPart s) ≡ Ten e
+  pub few : length (wholePart s ++ fractionPart s) ≤ 12
+  pub fits : fittedTo (value 0 (wholePart s ++ fractionPart s)) (e -ℤ pos (length (fractionPart s))) ≡ Fits t
+
+pub sent : (s : List ℕ) (t : Threshold) → thresholdOf s ≡ Within t → Sent s t
+unfolding thresholdOf judged
+sent s t r = go (count 1 12 (wholePart s ++ fractionPart s)) refl (powerOf (powerPart s)) refl r
+  where
+    go : (b : Bool) → count 1 12 (wholePart s ++ fractionPart s) ≡ b → (p : Power) → powerOf (powerPart s) ≡ p
+        → cond b (weighed (wholePart s ++ fractionPart s) (length (fractionPart s)) p) Malformed ≡ Within t → Sent s t
+    go true c (Ten e) q r = record {
+      e = e;
+      power = q;
+      few = ranged 1 12 (length (wholePart s ++ fractionPart s)) c .1;
+      fits = fits-of (fittedTo (value 0 (wholePart s ++ fractionPart s)) (e -ℤ pos (length (fractionPart s)))) t r;
+    }
+    go true c NoPower q r = absurd (let z : _≡_ {A = ℕ} 0 1 = cc in omega arith)
+    go false c p q r = absurd (let z : _≡_ {A = ℕ} 0 1 = cc in omega arith)
+
+fraction-digits : (s : List ℕ) → AllDigits (fraction s)
+unfolding fraction
+fraction-digits s = cond-cases AllDigits (headIs (code ".") s) (lead (drop 1 s)) [] (λ _. lead-digits (drop 1 s)) (λ _. tt)
+
+-- what is read lies within the end stops
+pub read-within : (s : List ℕ) (t : Threshold) → thresholdOf s ≡ Within t → withinStops t ≡ true
+read-within s t q = let r = sent s t q in fitted-stops (value 0 (wholePart s ++ fractionPart s)) (r .e -ℤ pos (length (fractionPart s))) t (r .fits)
+
+-- and is the five-digit number nearest to the one that was sent, a tie going upwards
+pub read-nearest : (s : List ℕ) (t : Threshold) (q : thresholdOf s ≡ Within t)
+    → Nearest (value 0 (wholePart s ++ fractionPart s)) 1 (sent s t q .e -ℤ pos (length (fractionPart s))) (t .mantissa) (t .exponent)
+read-nearest s t q =
+    let r = sent s t q in
+    let digits = wholePart s ++ fractionPart s in
+    let all : AllDigits digits = digits-join (wholePart s) (fractionPart s) (lead-digits (afterPlus s)) (fraction-digits (rest (afterPlus s))) in
+    fitted-nearest (value 0 digits) (r .e -ℤ pos (length (fractionPart s))) t (omega (arith, value-below digits 12 all (r .few))) (r .fits)

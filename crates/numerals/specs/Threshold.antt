@@ -53,9 +53,22 @@ unfoldable pub judged : List ℕ → List ℕ → List ℕ → ThresholdNumeral
 judged whole fraction s =
     cond (count 1 12 (whole ++ fraction)) (weighed (whole ++ fraction) (length fraction) (powerOf s)) Malformed
 
--- "with at most one point"
-unfoldable pub pointed : List ℕ → List ℕ → ThresholdNumeral
-pointed whole s = cond (headIs (code ".") s) (judged whole (lead (drop 1 s)) (rest (drop 1 s))) (judged whole [] s)
+-- "with at most one point": the digits behind it, and what follows them
+unfoldable pub fraction : List ℕ → List ℕ
+fraction s = cond (headIs (code ".") s) (lead (drop 1 s)) []
+
+unfoldable pub afterFraction : List ℕ → List ℕ
+afterFraction s = cond (headIs (code ".") s) (rest (drop 1 s)) s
+
+-- the parts of what was sent: the digits before the point, those behind it, and the power
+abbrev pub wholePart : List ℕ → List ℕ
+wholePart s = lead (afterPlus s)
+
+abbrev pub fractionPart : List ℕ → List ℕ
+fractionPart s = fraction (rest (afterPlus s))
+
+abbrev pub powerPart : List ℕ → List ℕ
+powerPart s = afterFraction (rest (afterPlus s))
 
 unfoldable pub thresholdOf : List ℕ → ThresholdNumeral
-thresholdOf s = pointed (lead (afterPlus s)) (rest (afterPlus s))
+thresholdOf s = judged (wholePart s) (fractionPart s) (powerPart s)

@@ -7,7 +7,7 @@ ghost use lib.Seq.{paste};
 ghost use Rattle.numerals.specs.Digits.{part, lead, rest, value};
 ghost use Rattle.numerals.specs.Whole.{numberOf};
 ghost use Rattle.numbers.specs.Rounding.{fittedTo};
-ghost use Rattle.numerals.specs.Threshold.{withSign, signedPower, powerOf, concluded, judged, pointed, thresholdOf};
+ghost use Rattle.numerals.specs.Threshold.{withSign, signedPower, powerOf, concluded, judged, fraction, afterFraction, thresholdOf};
 use crate::digits::is_at;
 use crate::digits::part;
 use crate::digits::run;
@@ -93,7 +93,7 @@ fn copied(d: [u8; 12], k: usize, s: &[u8], a: usize, e: usize) -> [u8; 12]
 // The number that the digits from a up to p and from b up to q make, up to twelve of them.
 fn gathered(s: &[u8], a: usize, p: usize, b: usize, q: usize) -> u64
     requires { ⌜ (a ≤ p) × (p ≤ b) × (b ≤ q) × (q ≤ length (now s)) × (p - a + (q - b) ≤ 12) ⌝ }
-    ensures { λ r. ⌜ (r ≡ value 0 (part a p (now (s .entry)) ++ part b q (now (s .entry)))) × (r ≤ 23000000000000) ⌝ }
+    ensures { λ r. ⌜ r ≡ value 0 (part a p (now (s .entry)) ++ part b q (now (s .entry))) ⌝ }
 {
     let w = p - a;
     let zeros = [0u8; 12];
@@ -136,7 +136,7 @@ fn judge(s: &[u8], a: usize, p: usize, b: usize, q: usize) -> ThresholdNumeral
 // The digits from a on, with or without a point.
 fn digits_from(s: &[u8], a: usize) -> ThresholdNumeral
     requires { ⌜ a ≤ length (now s) ⌝ }
-    ensures { λ r. ⌜ r ≡ pointed (lead (drop a (now (s .entry)))) (rest (drop a (now (s .entry)))) ⌝ }
+    ensures { λ r. ⌜ r ≡ judged (lead (drop a (now (s .entry)))) (fraction (rest (drop a (now (s .entry))))) (afterFraction (rest (drop a (now (s .entry))))) ⌝ }
 {
     let p = run(s, a);
     if is_at(s, p, b'.') {

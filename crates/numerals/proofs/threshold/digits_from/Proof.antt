@@ -3,7 +3,7 @@ use Prim.Native.Nat.{ℕ, _+_, _≤_}
 use mathlib.Core.Path.{_≡_, sym, _∙_}
 use Prim.Native.Char.{code}
 use Rattle.numerals.proofs.Runs.{head-in, run-in}
-use Rattle.numerals.proofs.Judging.{pointed-there, pointed-not}
+use Rattle.numerals.proofs.Judging.{point-there, point-not}
 use borrow.Author.Needs.{needs}
 use native.Mathlib.Omega.{arith}
 use Rattle.numerals.proofs.threshold.digits_from.Statement.{statement}
@@ -40,7 +40,7 @@ returns c =
     let r = c .before .before .before .before in
     let a = r .before .before .args in
     c .judge .ensures
-    ∙ pointed-there (a .s .now) (a .a) (r .run .result) (c .before .run2 .result) (omega arith) (r .run .ensures)
+    ∙ point-there (a .s .now) (a .a) (r .run .result) (omega arith) (r .run .ensures) (c .before .run2 .result)
     (sym (c .before .before .before .is-at .ensures) ∙ c .before .before .if1 .taken) (c .before .run2 .ensures)
 
 judge-requires-2 : tie.Need-judge-requires-2
@@ -54,7 +54,7 @@ returns-2 c =
     let r = c .before .before .before in
     let a = r .before .before .args in
     c .judge2 .ensures
-    ∙ pointed-not (a .s .now) (a .a) (r .run .result) (omega arith) (r .run .ensures) (sym (c .before .before .is-at .ensures) ∙ c .before .if1 .left)
+    ∙ point-not (a .s .now) (a .a) (r .run .result) (omega arith) (r .run .ensures) (sym (c .before .before .is-at .ensures) ∙ c .before .if1 .left)
 
 pub digits-from-spec : {M : Type 1} → statement M
 digits-from-spec =

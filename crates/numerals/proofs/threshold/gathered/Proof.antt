@@ -5,7 +5,6 @@ use mathlib.Core.List.{List}
 use lib.ListN.{length, drop, replicate, length-drop}
 use lib.Seq.{paste}
 use Rattle.numerals.specs.Digits.{part, value}
-use Rattle.numerals.proofs.Runs.{bound-below}
 use Rattle.numerals.proofs.Judging.{two-runs}
 use borrow.Author.Needs.{needs}
 use native.Mathlib.Omega.{arith}
@@ -40,12 +39,9 @@ returns c =
     let y = drop (a .b) (a .s .now) in
     let w = a .p - a .a in
     let f = a .q - a .b in
-    let runs = c .before .before .copied2 .ensures ∙ ap (λ (d : List ℕ). paste d w y f) (c .before .before .before .copied .ensures) in (
-      c .value .ensures .0
-          ∙ ap (λ (d : List ℕ). value 0 (part 0 (w + f) d)) runs
-          ∙ ap (value 0) (two-runs (replicate 12 0) x y w f refl (omega (arith, length-drop (a .a) (a .s .now))) (omega (arith, length-drop (a .b) (a .s .now))) (omega arith)),
-      omega (arith, bound-below (c .value .result) (w + f - 0) 12 (c .value .ensures .1) (omega arith)),
-    )
+    let runs = c .before .before .copied2 .ensures ∙ ap (λ (d : List ℕ). paste d w y f) (c .before .before .before .copied .ensures) in
+    c .value .ensures .0 ∙ ap (λ (d : List ℕ). value 0 (part 0 (w + f) d)) runs
+    ∙ ap (value 0) (two-runs (replicate 12 0) x y w f refl (omega (arith, length-drop (a .a) (a .s .now))) (omega (arith, length-drop (a .b) (a .s .now))) (omega arith))
 
 pub gathered-spec : {M : Type 1} → statement M
 gathered-spec =

@@ -97,7 +97,7 @@ returns-4 c =
     let k = count-runs s (a .a) (a .p) (a .b) (a .q) (omega arith) (omega arith) (omega arith) (omega arith) in
     let behind : length fraction ≡ a .q - a .b = part-length (a .b) (a .q) s (omega arith) (omega arith) in
     c .conclude .ensures
-    ∙ ap₂ (λ (n : ℕ) (x : ℤ). concluded (fittedTo n x)) (c .before .gathered .ensures .0) (moved-is e (a .q - a .b) (two u) (omega arith) ∙ ap (λ (j : ℕ). e -ℤ pos j) (sym behind))
+    ∙ ap₂ (λ (n : ℕ) (x : ℤ). concluded (fittedTo n x)) (c .before .gathered .ensures) (moved-is e (a .q - a .b) (two u) (omega arith) ∙ ap (λ (j : ℕ). e -ℤ pos j) (sym behind))
     ∙ ap (weighed (whole ++ fraction) (length fraction)) (sym (u .before .t .given .1) ∙ u .before .before .before .power-at .ensures)
     ∙ judged-is whole fraction (drop (a .q) s) (omega (arith, k)) (omega (arith, k))
 

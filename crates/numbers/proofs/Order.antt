@@ -13,6 +13,7 @@ use mir.Syntax.{w32}
 use mir.Val.{Fits, SFits, toZ, ofZ}
 use mir.Facts.{toZ-ofZ, fits-natAbs}
 use Rattle.text.proofs.Cases.{below, and-true, ranged}
+use Rattle.numbers.proofs.Stops.{stops-digits}
 use Rattle.numbers.proofs.Fractions.{tens-some, tenths-some}
 use Rattle.numbers.specs.Numbers.{isNumber, withinStops, tens, tenths, less, isBelow, isAbove}
 use Rattle.numbers.specs.declared.threshold.Threshold.{Threshold}
@@ -148,7 +149,7 @@ module _ {v : Value} {t : Threshold} {n w : Bool} (beside : Beside v t n w) wher
     is-within = sym (beside .within) ∙ and-true n w comparable .1
 
     stop-digits : (10000 ≤ t .mantissa) × (t .mantissa ≤ 99999)
-    stop-digits = ranged 10000 99999 (t .mantissa) (and-true _ _ is-within .0)
+    stop-digits = stops-digits t is-within
 
     nonpositive : leZ (read (v .mantissa)) (pos 0) ≡ true → isBelow v t ≡ true
     nonpositive h =

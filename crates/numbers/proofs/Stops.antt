@@ -7,7 +7,7 @@ use native.Mathlib.Omega.{arith}
 use borrow.Author.Tests.{eq-eqb, ne-eqb, eqb-false}
 use lib.Dec.{eqb}
 use lib.IntN.{ℤ, pos, negsuc, natAbs}
-use Rattle.text.proofs.Cases.{and-true, true-or-false, cond-cases}
+use Rattle.text.proofs.Cases.{and-true, true-or-false, cond-cases, ranged}
 use Rattle.numbers.proofs.Nearest.{rounded-far, rounded-nearest}
 use Rattle.numbers.proofs.Signed.{between-near, between-far}
 use Rattle.numbers.specs.Numbers.{fiveDigits, between, withinStops}
@@ -15,6 +15,9 @@ use Rattle.numbers.specs.Rounding.{rounded, stopped, fittedTo, Nearest}
 use Rattle.numbers.specs.declared.threshold.Threshold.{Threshold}
 use Rattle.numbers.specs.declared.threshold.Fitted.{Fitted}
 use Rattle.numbers.specs.declared.threshold.Fitted.the-variants.{Within, Outside}
+
+pub stops-digits : (t : Threshold) → withinStops t ≡ true → (10000 ≤ t .mantissa) × (t .mantissa ≤ 99999)
+stops-digits t h = ranged 10000 99999 (t .mantissa) (and-true (fiveDigits (t .mantissa)) (between (negsuc 19) (pos 20) (t .exponent)) h .0)
 
 pub stops-near : (t : Threshold) → withinStops t ≡ true → natAbs (t .exponent) ≤ 20
 stops-near t h = between-near 19 (t .exponent) (and-true (fiveDigits (t .mantissa)) (between (negsuc 19) (pos 20) (t .exponent)) h .1)

@@ -3,4 +3,5 @@ pub mod Wholes
 pub mod Powers
 pub mod Judging
 pub mod Stops
+pub mod RoundTrip
 pub mod Rows

@@ -5,7 +5,7 @@ use mathlib.Core.Logic.{⊎-elim}
 use native.Mathlib.Omega.{arith}
 use native.Mathlib.Nat.{pow-succ', mul-assoc}
 use borrow.Author.Tests.{lt-ltb, le-ltb}
-use Rattle.text.proofs.Cases.{below}
+use Rattle.numbers.proofs.Cases.{below}
 use Rattle.numbers.specs.Rounding.{climbWithin, climb}
 
 within-most : (fuel n to : ℕ) → climbWithin fuel n to ≤ fuel

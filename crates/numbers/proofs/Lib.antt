@@ -1,3 +1,4 @@
+pub mod Cases
 pub mod Signed
 pub mod Climb
 pub mod Tens

@@ -10,7 +10,7 @@ use lib.Pow.{pow-add}
 use borrow.Author.Tests.{leb-true, eqb-true, eqb-false, ne-eqb}
 use lib.Dec.{leb, eqb}
 use lib.IntN.{ℤ, pos, negsuc, natAbs, _+ℤ_, _-ℤ_, +ℤ-idr, -ℤ-+ℤ-cancel, +ℤ-negℤ-cancel}
-use Rattle.text.proofs.Cases.{below, and-true, cond-cases, ranged}
+use Rattle.numbers.proofs.Cases.{below, and-true, cond-cases, ranged}
 use Rattle.numbers.proofs.Climb.{climb-reaches, climb-enough, climb-none, climb-short}
 use Rattle.numbers.proofs.Signed.{abs-add, abs-minus, abs-neg, between-near}
 use Rattle.numbers.proofs.Fractions.{tens-some, tenths-some, tens-more, tens-apart, tens-level}

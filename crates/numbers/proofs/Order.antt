@@ -12,7 +12,7 @@ use lib.Signed.{ltZ, leZ, nonNeg, pos-natAbs}
 use mir.Syntax.{w32}
 use mir.Val.{Fits, SFits, toZ, ofZ}
 use mir.Facts.{toZ-ofZ, fits-natAbs}
-use Rattle.text.proofs.Cases.{below, and-true, ranged}
+use Rattle.numbers.proofs.Cases.{below, and-true, ranged}
 use Rattle.numbers.proofs.Stops.{stops-digits}
 use Rattle.numbers.proofs.Fractions.{tens-some, tenths-some}
 use Rattle.numbers.specs.Numbers.{isNumber, withinStops, tens, tenths, less, isBelow, isAbove}

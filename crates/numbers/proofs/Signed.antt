@@ -11,7 +11,7 @@ use lib.Signed.{mag, ltZ, leZ, nonNeg, natAbs-le}
 use mir.Syntax.{w32, w64}
 use mir.Val.{SFits}
 use Rattle.numbers.specs.Numbers.{between}
-use Rattle.text.proofs.Cases.{below, and-true}
+use Rattle.numbers.proofs.Cases.{below, and-true}
 
 mag-le : (z : ℤ) → mag z ≤ natAbs z
 mag-le (pos n) = omega arith

@@ -7,7 +7,7 @@ use native.Mathlib.Omega.{arith}
 use borrow.Author.Tests.{eq-eqb, ne-eqb, eqb-false}
 use lib.Dec.{eqb}
 use lib.IntN.{ℤ, pos, negsuc, natAbs}
-use Rattle.text.proofs.Cases.{and-true, true-or-false, cond-cases, ranged}
+use Rattle.numbers.proofs.Cases.{and-true, true-or-false, cond-cases, ranged}
 use Rattle.numbers.proofs.Nearest.{rounded-far, rounded-nearest}
 use Rattle.numbers.proofs.Signed.{between-near, between-far}
 use Rattle.numbers.specs.Numbers.{fiveDigits, between, withinStops}

@@ -1,12 +1,9 @@
 -- Thresholds and signed values as numbers: d.dddd times a power of ten.
-use Prim.Native.Nat.{ℕ, suc, _+_, _*_, _/_, _^_}
-use mathlib.Core.List.{List, _∷_, _++_}
+use Prim.Native.Nat.{ℕ, suc, _*_, _^_}
 use mathlib.Core.Bool.{Bool, true, false, _&&_, _||_}
 use lib.Dec.{leb, eqb}
 use lib.IntN.{ℤ, pos, negsuc, negℤ, natAbs, _*ℤ_}
 use lib.Signed.{ltZ, leZ}
-use Prim.Native.Char.{code}
-use Rattle.text.specs.Digits.{dig}
 use Rattle.numbers.specs.declared.threshold.Threshold.{Threshold}
 use Rattle.numbers.specs.declared.value.Value.{Value}
 
@@ -56,19 +53,3 @@ isAbove v t = isNumber v && (withinStops t && less (pos (t .mantissa)) (t .expon
 abbrev pub signed : ℤ → ℕ → ℤ
 signed (pos n) m = pos m
 signed (negsuc n) m = negℤ (pos m)
-
--- "sign (+ for zero)"
-abbrev pub signByte : ℤ → ℕ
-signByte (pos n) = code "+"
-signByte (negsuc n) = code "-"
-
--- "d.ddddE, sign, two digits"
-unfoldable pub scientific : ℕ → ℤ → List ℕ
-scientific m e = dig 1 (m / 10000) ++ (code "." ∷ (dig 4 m ++ (code "E" ∷ signByte e ∷ dig 2 (natAbs e))))
-
-abbrev pub thresholdText : Threshold → List ℕ
-thresholdText t = scientific (t .mantissa) (t .exponent)
-
--- "sign (+ for zero), d.ddddE, sign, two digits"
-abbrev pub valueText : Value → List ℕ
-valueText v = signByte (v .mantissa) ∷ scientific (natAbs (v .mantissa)) (v .exponent)

@@ -1,6 +1,5 @@
-// Numbers of five digits and a power of ten: their limits, order, rounding, scaling and texts.
+// Numbers of five digits and a power of ten: their limits, order, rounding and scaling.
 mod rounding;
-mod signs;
+pub mod signs;
 pub mod threshold;
 pub mod value;
-mod writing;

@@ -2,9 +2,9 @@
 ghost use mathlib.Core.Path.{_≡_};
 ghost use Prim.Native.Nat.{_≤_};
 ghost use lib.IntN.{natAbs};
-ghost use Rattle.numbers.specs.Numbers.{signed, signByte};
+ghost use Rattle.numbers.specs.Numbers.{signed};
 
-pub(crate) fn magnitude(z: i32) -> u32
+pub fn magnitude(z: i32) -> u32
     ensures { λ r. ⌜ r ≡ natAbs z ⌝ }
 {
     if z < 0 {
@@ -20,10 +20,4 @@ pub(crate) fn with_sign(z: i32, m: u32) -> i32
     ensures { λ r. ⌜ r ≡ signed z m ⌝ }
 {
     if z < 0 { -(m as i32) } else { m as i32 }
-}
-
-pub(crate) fn sign_byte(z: i32) -> u8
-    ensures { λ r. ⌜ r ≡ signByte z ⌝ }
-{
-    if z < 0 { b'-' } else { b'+' }
 }

@@ -16,7 +16,7 @@ use Rattle.numerals.specs.declared.threshold.Power.{Power}
 use Rattle.numerals.specs.declared.threshold.Power.the-variants.{Ten, NoPower}
 use Rattle.numerals.specs.declared.whole.Numeral.{Numeral}
 use Rattle.numerals.specs.declared.whole.Numeral.the-variants.{Number, Malformed}
-use Rattle.text.proofs.Cases.{cond-cases}
+use Rattle.numbers.proofs.Cases.{cond-cases}
 use Rattle.numerals.proofs.Runs.{drop-one, head-in}
 use Rattle.numbers.proofs.Signed.{abs-neg}
 use Rattle.numerals.proofs.Wholes.{number-read}

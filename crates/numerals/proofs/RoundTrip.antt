@@ -13,9 +13,10 @@ use lib.Dec.{eqb}
 use lib.ListN.{length, drop}
 use lib.IntN.{ℤ, pos, negsuc, negℤ, natAbs, _-ℤ_}
 use Rattle.text.specs.Digits.{dig, bare, wholeText, factorText}
-use Rattle.text.proofs.Cases.{below}
+use Rattle.numbers.proofs.Cases.{below}
 use Rattle.text.proofs.Texts.{dig-length}
-use Rattle.numbers.specs.Numbers.{signByte, scientific, thresholdText, withinStops}
+use Rattle.numbers.specs.Numbers.{withinStops}
+use Rattle.numerals.specs.Writing.{signByte, scientific, thresholdText}
 use Rattle.numbers.specs.Rounding.{fittedTo}
 use Rattle.numbers.specs.declared.threshold.Threshold.{Threshold}
 use Rattle.numbers.specs.declared.threshold.Fitted.the-variants.{Within as Fits}

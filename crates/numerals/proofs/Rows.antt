@@ -5,7 +5,7 @@ use Prim.Native.Char.{code}
 use mathlib.Core.Path.{_≡_, refl}
 use mathlib.Core.List.{List, [], _∷_, _++_, map}
 use Rattle.text.specs.Digits.{bare, factorText}
-use Rattle.numbers.specs.Numbers.{scientific, thresholdText}
+use Rattle.numerals.specs.Writing.{scientific, thresholdText}
 use Rattle.numbers.specs.Rounding.{climbWithin, five, power, rounded, fittedTo}
 use Rattle.numerals.specs.Digits.{lead, rest, headIs, value}
 use Rattle.numerals.specs.Whole.{numberOf, behindPoint, factorOf}

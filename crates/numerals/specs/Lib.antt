@@ -1,3 +1,4 @@
 pub mod Digits
 pub mod Whole
 pub mod Threshold
+pub mod Writing

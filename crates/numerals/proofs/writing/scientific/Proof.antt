@@ -2,10 +2,10 @@
 use mathlib.Core.Path.{_≡_, refl, ap, _∙_}
 use lib.IntN.{natAbs}
 use mir.Facts.{toZ-ofZ}
-use Rattle.numbers.specs.Numbers.{scientific, signByte}
+use Rattle.numerals.specs.Writing.{scientific, signByte}
 use borrow.Author.Needs.{needs}
-use Rattle.numbers.proofs.writing.scientific.Statement.{statement}
-use Rattle.numbers.proofs.writing.scientific.Tie as tie
+use Rattle.numerals.proofs.writing.scientific.Statement.{statement}
+use Rattle.numerals.proofs.writing.scientific.Tie as tie
 
 padded-requires : tie.Need-padded-requires
 padded-requires c κs = search needs

@@ -4,10 +4,10 @@ use mathlib.Core.Bool.{cond}
 use lib.IntN.{ℤ, pos}
 use lib.Signed.{ltZ}
 use mir.Facts.{toZ-ofZ}
-use Rattle.numbers.specs.Numbers.{signByte}
+use Rattle.numerals.specs.Writing.{signByte}
 use Rattle.numbers.proofs.Order.{by-sign}
-use Rattle.numbers.proofs.signs.sign_byte.Statement.{statement}
-use Rattle.numbers.proofs.signs.sign_byte.Tie as tie
+use Rattle.numerals.proofs.writing.sign_byte.Statement.{statement}
+use Rattle.numerals.proofs.writing.sign_byte.Tie as tie
 
 byte-is : (z : ℤ) → signByte z ≡ cond (ltZ z (pos 0)) 45 43
 byte-is = by-sign signByte 45 43 (λ n. refl) (λ n. refl)

@@ -1,7 +1,6 @@
 pub mod Cases
 pub mod Signed
 pub mod Climb
-pub mod Tens
 pub mod Fractions
 pub mod Nearest
 pub mod Stops

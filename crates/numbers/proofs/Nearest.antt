@@ -7,7 +7,7 @@ use native.Mathlib.Omega.{arith}
 use native.Mathlib.Nat.{mul-le-mul, mul-le-mul-right, mul-lt-mul-of-pos-right, lt-of-mul-lt-mul-right, le-of-mul-le-mul-right, mul-pos, one-le-pow}
 use native.Mathlib.Nat.{div-mul-le-self, lt-div-mul-add, le-div-iff-mul-le, div-lt-iff-lt-mul, div-eq-of-lt-le, div-add-mod', mod-lt}
 use lib.Pow.{pow-add}
-use borrow.Author.Tests.{leb-true, eqb-true, eqb-false, ne-eqb}
+use borrow.Author.Tests.{eqb-true, eqb-false, ne-eqb}
 use lib.Dec.{leb, eqb}
 use lib.IntN.{ℤ, pos, negsuc, natAbs, _+ℤ_, _-ℤ_, +ℤ-idr, -ℤ-+ℤ-cancel, +ℤ-negℤ-cancel}
 use Rattle.numbers.proofs.Cases.{below, and-true, cond-cases, ranged}

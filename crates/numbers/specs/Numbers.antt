@@ -1,6 +1,6 @@
 -- Thresholds and signed values as numbers: d.dddd times a power of ten.
 use Prim.Native.Nat.{ℕ, suc, _*_, _^_}
-use mathlib.Core.Bool.{Bool, true, false, _&&_, _||_}
+use mathlib.Core.Bool.{Bool, _&&_, _||_}
 use lib.Dec.{leb, eqb}
 use lib.IntN.{ℤ, pos, negsuc, negℤ, natAbs, _*ℤ_}
 use lib.Signed.{ltZ, leZ}

@@ -3,7 +3,6 @@ ghost use mathlib.Core.Path.{_≡_};
 ghost use mathlib.Core.Bool.{true, _&&_};
 ghost use Prim.Native.Nat.{_≤_, _<_, _*_};
 ghost use lib.Dec.{ltb};
-ghost use lib.IntN.{natAbs, pos};
 ghost use Rattle.numbers.specs.Numbers.{isFive, isNumber, tens, tenths, isBelow, isAbove};
 ghost use Rattle.numbers.specs.Rounding.{isUsable, product, scaledBy};
 use crate::rounding::rounded;

@@ -1,32 +1,26 @@
 -- The threshold reader: what each exit of its definitions asks, and its digits put together from two runs.
-use Prim.Native.Nat.{ℕ, _+_, _-_, _≤_, _<_}
+use Prim.Native.Nat.{ℕ, _+_, _-_, _≤_}
 use Prim.Native.Char.{code}
-use mathlib.Core.Path.{_≡_, refl, sym, ap, ap₂, _∙_}
-use mathlib.Core.List.{List, [], _++_}
-use mathlib.Core.Bool.{Bool, true, false}
+use mathlib.Core.Path.{_≡_, sym, ap, ap₂, _∙_}
+use mathlib.Core.List.{List, _++_}
+use mathlib.Core.Bool.{true, false}
 use native.Mathlib.Omega.{arith}
 use native.Mathlib.Nat.{zero-add}
-use borrow.Author.Tests.{le-leb, lt-leb}
 use lib.ListN.{length, drop, take, length-append}
 use lib.Seq.{paste, take-paste, length-paste}
-use Rattle.numerals.specs.Digits.{part, lead, rest, headIs}
+use Rattle.numerals.specs.Digits.{part, lead, rest, headIs, count}
 use Rattle.numerals.specs.Threshold.{afterPlus, powerOf, weighed, judged, fraction, afterFraction, thresholdOf}
 use Rattle.numerals.specs.declared.threshold.ThresholdNumeral.the-variants.{Malformed}
 use Rattle.numerals.proofs.Runs.{drop-one, head-in, run-lead, run-rest, part-length, part-none}
 
 module _ (whole fraction s : List ℕ) where
-  pub judged-none : length (whole ++ fraction) < 1 → Malformed ≡ judged whole fraction s
+  pub judged-taken : count 1 12 (whole ++ fraction) ≡ true → weighed (whole ++ fraction) (length fraction) (powerOf s) ≡ judged whole fraction s
   unfolding judged
-  judged-none h = rw (lt-leb _ _ h)
+  judged-taken h = rw h
 
-  pub judged-long : 12 < length (whole ++ fraction) → Malformed ≡ judged whole fraction s
+  pub judged-left : count 1 12 (whole ++ fraction) ≡ false → Malformed ≡ judged whole fraction s
   unfolding judged
-  judged-long h = rw (le-leb 1 (length (whole ++ fraction)) (omega arith), lt-leb _ _ h)
-
-  pub judged-is : 1 ≤ length (whole ++ fraction) → length (whole ++ fraction) ≤ 12
-      → weighed (whole ++ fraction) (length fraction) (powerOf s) ≡ judged whole fraction s
-  unfolding judged
-  judged-is h l = rw (le-leb _ _ h, le-leb _ _ l)
+  judged-left h = rw h
 
 -- two runs written one behind the other over twelve places
 pub two-runs : (z x y : List ℕ) (n m : ℕ) → length z ≡ 12 → n ≤ length x → m ≤ length y → n + m ≤ 12

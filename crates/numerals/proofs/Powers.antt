@@ -1,14 +1,14 @@
 -- The power of ten behind a threshold's digits: what each exit of its definition asks, and that it is small.
 use Prim.Native.Nat.{ℕ, _+_, _≤_, _<_}
 use Prim.Native.Char.{code}
-use mathlib.Core.Path.{_≡_, refl, sym, ap, _∙_}
+use mathlib.Core.Path.{_≡_, refl}
 use mathlib.Core.List.{List}
 use mathlib.Core.Bool.{Bool, true, false, cond}
 use native.Mathlib.Omega.{arith}
 use borrow.Author.Tests.{eq-eqb, ne-eqb}
 use lib.ListN.{length, drop, length-drop}
 use lib.Dec.{eqb}
-use lib.IntN.{pos, negℤ, natAbs}
+use lib.IntN.{pos, natAbs}
 use Rattle.numerals.specs.Digits.{headIs}
 use Rattle.numerals.specs.Whole.{numberOf}
 use Rattle.numerals.specs.Threshold.{withSign, signedPower, powerOf}

@@ -7,11 +7,11 @@ use mathlib.Core.Bool.{Bool, true, false, cond, _&&_}
 use mathlib.Core.Logic.{⊎-elim}
 use native.Mathlib.Omega.{arith}
 use native.Mathlib.Nat.{pow-succ', add-mul, mul-assoc, one-le-pow, mod-lt, mod-eq-of-lt, div-eq-of-lt, lt-of-lt-of-le, add-sub-cancel-left, pow-le-pow-right}
-use borrow.Author.Tests.{le-leb, eq-eqb, ne-eqb, eqb-true, eqb-false}
+use borrow.Author.Tests.{le-leb, ne-eqb, eqb-true, eqb-false}
 use lib.Arith.{mod-mul}
 use lib.Dec.{eqb}
-use lib.ListN.{length, drop}
-use lib.IntN.{ℤ, pos, negsuc, negℤ, natAbs, _-ℤ_}
+use lib.ListN.{length}
+use lib.IntN.{ℤ, pos, negsuc, natAbs, _-ℤ_}
 use Rattle.text.specs.Digits.{dig, bare, wholeText, factorText}
 use Rattle.numbers.proofs.Cases.{below}
 use Rattle.text.proofs.Texts.{dig-length}
@@ -22,14 +22,14 @@ use Rattle.numbers.specs.declared.threshold.Threshold.{Threshold}
 use Rattle.numbers.specs.declared.threshold.Fitted.the-variants.{Within as Fits}
 use Rattle.numbers.proofs.Nearest.{round-exact}
 use Rattle.numbers.proofs.Stops.{stops-digits, stops-near, fitted-within}
-use Rattle.numerals.specs.Digits.{isDigit, lead, rest, headIs, count, value}
-use Rattle.numerals.specs.Whole.{numberOf, wholeOf, thousandths, behindPoint, factorOf}
-use Rattle.numerals.specs.Threshold.{afterPlus, withSign, signedPower, powerOf, concluded, weighed, judged, fraction, afterFraction, thresholdOf}
+use Rattle.numerals.specs.Digits.{isDigit, lead, rest, headIs, value}
+use Rattle.numerals.specs.Whole.{numberOf, wholeOf, behindPoint, factorOf}
+use Rattle.numerals.specs.Threshold.{afterPlus, signedPower, powerOf, concluded, weighed, judged, fraction, afterFraction, thresholdOf}
 use Rattle.numerals.specs.declared.threshold.ThresholdNumeral.the-variants.{Within}
 use Rattle.numerals.specs.declared.threshold.Power.the-variants.{Ten}
 use Rattle.numerals.specs.declared.whole.Numeral.the-variants.{Number}
 use Rattle.numerals.proofs.Runs.{value-none}
-use Rattle.numerals.proofs.Wholes.{number-is, factor-is}
+use Rattle.numerals.proofs.Wholes.{number-is, factor-taken}
 
 -- ---- over the digit count
 
@@ -148,7 +148,7 @@ factor-digits k q t a b h =
     let s = dig k q ++ (code "." ∷ dig 3 t) in
     let l : lead s ≡ dig k q = lead-dig k q (code "." ∷ dig 3 t) refl in
     let r : rest s ≡ code "." ∷ dig 3 t = rest-dig k q (code "." ∷ dig 3 t) refl in
-    sym (factor-is s (rw (l, dig-length) a) (rw (l, dig-length) b))
+    sym (factor-taken s (rw (l, dig-length, le-leb 1 k a, le-leb k 2 b)))
     ∙ rw (l, r, value-last k q, mod-eq-of-lt h, number-last 3 3 t (omega arith) (omega arith)) (ap Number (omega arith))
 
 pub factor-round : (t : ℕ) → t < 100000 → factorOf (factorText t) ≡ Number t

@@ -3,7 +3,7 @@ use Prim.Native.Nat.{ℕ}
 use Prim.Native.String.{String, [] as []ˢ, _∷_ as _∷ˢ_}
 use Prim.Native.Char.{code}
 use mathlib.Core.Path.{_≡_, refl}
-use mathlib.Core.List.{List, [], _∷_, _++_, map}
+use mathlib.Core.List.{List, [], _∷_, map}
 use Rattle.text.specs.Digits.{bare, factorText}
 use Rattle.numerals.specs.Writing.{scientific, thresholdText}
 use Rattle.numbers.specs.Rounding.{climbWithin, five, power, rounded, fittedTo}

@@ -1,7 +1,7 @@
 -- A threshold that was read lies within the end stops, and is the nearest to the number that was sent.
-use Prim.Native.Nat.{ℕ, _^_, _≤_, _<_}
+use Prim.Native.Nat.{ℕ, _≤_}
 use Prim.Native.Char.{code}
-use mathlib.Core.Path.{_≡_, refl, sym, ap, _∙_, subst}
+use mathlib.Core.Path.{_≡_, refl, ap}
 use mathlib.Core.List.{List, [], _++_}
 use mathlib.Core.Bool.{Bool, true, false, cond}
 use native.Mathlib.Omega.{arith}
@@ -17,8 +17,7 @@ use Rattle.numbers.specs.declared.threshold.Fitted.the-variants.{Within as Fits
 use Rattle.numerals.proofs.Runs.{AllDigits, lead-digits, digits-join, value-below}
 use Rattle.numerals.specs.Digits.{lead, rest, headIs, count, value}
 use Rattle.numerals.specs.Threshold.{afterPlus, fraction, powerOf, concluded, weighed, judged, wholePart, fractionPart, powerPart, thresholdOf}
-use Rattle.numerals.specs.declared.threshold.ThresholdNumeral.{ThresholdNumeral}
-use Rattle.numerals.specs.declared.threshold.ThresholdNumeral.the-variants.{Within, Malformed, OutOfRange}
+use Rattle.numerals.specs.declared.threshold.ThresholdNumeral.the-variants.{Within, Malformed}
 use Rattle.numerals.specs.declared.threshold.Power.{Power}
 use Rattle.numerals.specs.declared.threshold.Power.the-variants.{Ten, NoPower}
 

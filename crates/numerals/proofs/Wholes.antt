@@ -1,36 +1,30 @@
 -- Whole numbers and factors: what each exit of their definitions asks, and what a number that was read tells.
-use Prim.Native.Nat.{ℕ, zero, suc, _+_, _-_, _*_, _^_, _≤_, _<_}
+use Prim.Native.Nat.{ℕ, _+_, _-_, _*_, _^_, _≤_, _<_}
 use Prim.Native.Char.{code}
 use mathlib.Core.Path.{_≡_, refl, sym, ap, ap₂, _∙_}
-use mathlib.Core.List.{List, [], _∷_}
+use mathlib.Core.List.{List}
 use mathlib.Core.Bool.{Bool, true, false, cond, _&&_}
 use native.Mathlib.Omega.{arith}
-use borrow.Author.Tests.{le-leb, lt-leb, leb-true, eq-eqb, ne-eqb, eqb-true}
+use borrow.Author.Tests.{le-leb, leb-true, eq-eqb, ne-eqb, eqb-true}
 use lib.ListN.{length, drop, length-drop}
 use lib.Dec.{leb, eqb}
 use Rattle.numerals.specs.Digits.{lead, rest, headIs, count, value}
 use Rattle.numerals.specs.Whole.{numberOf, thousandths, behindPoint, factorOf}
-use Rattle.numerals.specs.declared.whole.Numeral.{Numeral}
 use Rattle.numerals.specs.declared.whole.Numeral.the-variants.{Number, Malformed}
 use Rattle.numbers.proofs.Cases.{and-true}
 use Rattle.numerals.proofs.Runs.{drop-one, lead-digits, value-below, lead-rest-length}
 
 module _ (most : ℕ) (s : List ℕ) where
-  pub number-behind : 0 < length (rest s) → Malformed ≡ numberOf most s
+  pub number-taken : eqb (length (rest s)) 0 && count 1 most (lead s) ≡ true → Number (value 0 (lead s)) ≡ numberOf most s
   unfolding numberOf
-  number-behind h = rw (ne-eqb (length (rest s)) 0 (λ e. omega arith))
+  number-taken h = rw h
 
-  pub number-none : length (rest s) ≡ 0 → length (lead s) < 1 → Malformed ≡ numberOf most s
+  pub number-left : eqb (length (rest s)) 0 && count 1 most (lead s) ≡ false → Malformed ≡ numberOf most s
   unfolding numberOf
-  number-none e h = rw (eq-eqb _ _ e, lt-leb _ _ h)
-
-  pub number-long : length (rest s) ≡ 0 → 1 ≤ length (lead s) → most < length (lead s) → Malformed ≡ numberOf most s
-  unfolding numberOf
-  number-long e h l = rw (eq-eqb _ _ e, le-leb _ _ h, lt-leb _ _ l)
+  number-left h = rw h
 
   pub number-is : length (rest s) ≡ 0 → 1 ≤ length (lead s) → length (lead s) ≤ most → Number (value 0 (lead s)) ≡ numberOf most s
-  unfolding numberOf
-  number-is e h l = rw (eq-eqb _ _ e, le-leb _ _ h, le-leb _ _ l)
+  number-is e h l = number-taken (rw (eq-eqb _ _ e, le-leb _ _ h, le-leb _ _ l))
 
 -- what a number that was read tells of the bytes and of itself
 pub record Read (most : ℕ) (s : List ℕ) (n : ℕ) : Type 0 where
@@ -83,14 +77,10 @@ module _ (n p : ℕ) (s : List ℕ) (h : p ≤ length s) (there : p ≡ length s
   point-not e = point-other n (drop p s) left e
 
 module _ (s : List ℕ) where
-  pub factor-none : length (lead s) < 1 → Malformed ≡ factorOf s
+  pub factor-taken : count 1 2 (lead s) ≡ true → behindPoint (value 0 (lead s)) (rest s) ≡ factorOf s
   unfolding factorOf
-  factor-none h = rw (lt-leb _ _ h)
+  factor-taken h = rw h
 
-  pub factor-long : 2 < length (lead s) → Malformed ≡ factorOf s
+  pub factor-left : count 1 2 (lead s) ≡ false → Malformed ≡ factorOf s
   unfolding factorOf
-  factor-long h = rw (le-leb 1 (length (lead s)) (omega arith), lt-leb _ _ h)
-
-  pub factor-is : 1 ≤ length (lead s) → length (lead s) ≤ 2 → behindPoint (value 0 (lead s)) (rest s) ≡ factorOf s
-  unfolding factorOf
-  factor-is h l = rw (le-leb _ _ h, le-leb _ _ l)
+  factor-left h = rw h

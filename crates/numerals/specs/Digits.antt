@@ -1,7 +1,7 @@
 -- Runs of decimal digits in a list of bytes, and the number that they make.
 use Prim.Native.Nat.{ℕ, _+_, _-_, _*_}
 use mathlib.Core.List.{List, [], _∷_}
-use mathlib.Core.Bool.{Bool, true, false, cond, _&&_}
+use mathlib.Core.Bool.{Bool, false, cond, _&&_}
 use lib.ListN.{length, take, drop}
 use lib.Dec.{leb, eqb}
 

@@ -3,11 +3,11 @@
 -- 1.0000E-20 to 9.9999E+20, is 0010." (01, "Settings")
 use Prim.Native.Nat.{ℕ}
 use Prim.Native.Char.{code}
-use mathlib.Core.List.{List, [], _∷_, _++_}
+use mathlib.Core.List.{List, [], _++_}
 use mathlib.Core.Bool.{Bool, true, false, cond}
 use lib.ListN.{length, drop}
 use lib.Dec.{eqb}
-use lib.IntN.{ℤ, pos, negℤ, _-ℤ_}
+use lib.IntN.{pos, negℤ, _-ℤ_}
 use Rattle.numerals.specs.Digits.{lead, rest, headIs, count, value}
 use Rattle.numerals.specs.Whole.{numberOf}
 use Rattle.numbers.specs.Rounding.{fittedTo}

@@ -1,7 +1,7 @@
 -- Whole numbers and factors (01, "Settings").
 use Prim.Native.Nat.{ℕ, _+_, _-_, _*_, _^_}
 use mathlib.Core.List.{List}
-use mathlib.Core.Bool.{Bool, true, false, cond, _&&_}
+use mathlib.Core.Bool.{cond, _&&_}
 use lib.ListN.{length, drop}
 use lib.Dec.{eqb}
 use Prim.Native.Char.{code}

@@ -120,17 +120,15 @@ fn judge(s: &[u8], a: usize, p: usize, b: usize, q: usize) -> ThresholdNumeral
 {
     let f = q - b;
     let n = p - a + f;
-    if n < 1 {
-        return ThresholdNumeral::Malformed;
+    let few = (1 <= n) & (n <= 12);
+    if few {
+        let t = power_at(s, q);
+        return match t {
+            Power::NoPower => ThresholdNumeral::Malformed,
+            Power::Ten(e) => conclude(gathered(s, a, p, b, q), e - (f as i32)),
+        };
     }
-    if 12 < n {
-        return ThresholdNumeral::Malformed;
-    }
-    let t = power_at(s, q);
-    match t {
-        Power::NoPower => ThresholdNumeral::Malformed,
-        Power::Ten(e) => conclude(gathered(s, a, p, b, q), e - (f as i32)),
-    }
+    ThresholdNumeral::Malformed
 }
 
 // The digits from a on, with or without a point.

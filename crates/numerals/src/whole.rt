@@ -21,17 +21,13 @@ pub(crate) fn number(s: &[u8], at: usize, most: usize) -> Numeral
     ensures { λ r. ⌜ r ≡ numberOf most (drop at (now (s .entry))) ⌝ }
 {
     let e = run(s, at);
-    if e < s.len() {
-        return Numeral::Malformed;
-    }
     let k = e - at;
-    if k < 1 {
-        return Numeral::Malformed;
+    let all = e == s.len();
+    let few = (1 <= k) & (k <= most);
+    if all & few {
+        return Numeral::Number(value(s, at, e) as u32);
     }
-    if most < k {
-        return Numeral::Malformed;
-    }
-    Numeral::Number(value(s, at, e) as u32)
+    Numeral::Malformed
 }
 
 pub fn read_whole(s: &[u8], start: usize, end: usize) -> Numeral
@@ -76,13 +72,11 @@ fn factor_in(s: &[u8]) -> Numeral
     ensures { λ r. ⌜ r ≡ factorOf (now (s .entry)) ⌝ }
 {
     let p = run(s, 0);
-    if p < 1 {
-        return Numeral::Malformed;
+    let few = (1 <= p) & (p <= 2);
+    if few {
+        return behind(value(s, 0, p) as u32, s, p);
     }
-    if 2 < p {
-        return Numeral::Malformed;
-    }
-    behind(value(s, 0, p) as u32, s, p)
+    Numeral::Malformed
 }
 
 pub fn read_factor(s: &[u8], start: usize, end: usize) -> Numeral

@@ -1,7 +1,7 @@
 -- A reply of at most 64 bytes (01, "Answer numbers of the calls": 64 output bytes are free before each byte taken).
 use Prim.Native.Nat.{ℕ, _+_}
-use mathlib.Core.List.{List, [], _∷_, _++_}
-use mathlib.Core.Bool.{Bool, true, false, cond, _&&_}
+use mathlib.Core.List.{List, [], _∷_}
+use mathlib.Core.Bool.{Bool, cond, _&&_}
 use lib.ListN.{length, set, replicate}
 use lib.Seq.{paste}
 use lib.Dec.{leb, ltb}

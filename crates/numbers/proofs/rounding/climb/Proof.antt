@@ -1,10 +1,9 @@
 -- `digits::climb`: the tens counted, and those still to count, are those of the definition.
-use Prim.Native.Nat.{ℕ, _≤_, _+_, _-_, _*_, _^_}
-use mathlib.Core.Path.{_≡_, refl, sym, ap, _∙_}
+use Prim.Native.Nat.{_≤_, _+_, _-_, _*_, _^_}
+use mathlib.Core.Path.{_≡_, sym}
 use native.Mathlib.Nat.{mul-one}
 use Rattle.numbers.specs.Rounding.{climbWithin, climb}
-use Rattle.numbers.specs.declared.rounding.Climbed.{Climbed}
-use Rattle.numbers.proofs.Tens.{climb-more, climb-done, climb-end, ten-more}
+use Rattle.numbers.proofs.Climb.{climb-more, climb-done, climb-end, ten-more}
 use borrow.Author.Needs.{needs}
 use native.Mathlib.Omega.{arith}
 use Rattle.numbers.proofs.rounding.climb.Statement.{statement}

@@ -1,9 +1,8 @@
 -- `rounding::power`: small exponents, whose sums 32 bits hold.
-use Prim.Native.Nat.{ℕ, _+_, _≤_}
-use mathlib.Core.Path.{_≡_, refl}
-use lib.IntN.{ℤ, pos, natAbs, _+ℤ_, _-ℤ_}
+use Prim.Native.Nat.{_+_}
+use lib.IntN.{ℤ, pos, _+ℤ_, _-ℤ_}
 use mir.Syntax.{w32}
-use mir.Val.{SFits, toZ, ofZ}
+use mir.Val.{SFits}
 use mir.Facts.{toZ-ofZ, toZ-pos}
 use Rattle.numbers.proofs.Signed.{small, abs-add, abs-minus}
 use borrow.Author.Needs.{needs}

@@ -1,13 +1,13 @@
 -- `rounding::rounded`: what was placed has five digits; they and their power are those of the definition, carried or not.
-use Prim.Native.Nat.{ℕ, _+_, _*_, _/_, _^_, _≤_, _<_}
-use mathlib.Core.Path.{_≡_, refl, sym, ap, ap₂, _∙_}
+use Prim.Native.Nat.{_+_, _≤_}
+use mathlib.Core.Path.{_≡_, sym, ap, ap₂, _∙_}
 use borrow.Author.Tests.{eq-eqb, ne-eqb}
-use lib.IntN.{ℤ, pos, natAbs, _+ℤ_, _-ℤ_}
+use lib.IntN.{ℤ, pos, natAbs, _+ℤ_}
 use mir.Syntax.{w32}
 use mir.Val.{SFits}
 use mir.Facts.{toZ-ofZ}
 use Rattle.numbers.specs.Rounding.{climb}
-use Rattle.numbers.specs.Rounding.{nearest, up, down, five, power, rounded}
+use Rattle.numbers.specs.Rounding.{nearest, five, power, rounded}
 use Rattle.numbers.specs.declared.rounding.Climbed.{Climbed}
 use Rattle.numbers.proofs.Nearest.{placed, power-near}
 use Rattle.numbers.proofs.Signed.{small, abs-add}

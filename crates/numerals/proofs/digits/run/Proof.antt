@@ -1,6 +1,6 @@
 -- `digits::run`: as many digits as were passed, and those from here on, are the digits from the start.
 use Prim.Native.Nat.{_≤_, _+_, _-_}
-use mathlib.Core.Path.{_≡_, refl, sym, ap, _∙_}
+use mathlib.Core.Path.{_≡_}
 use lib.ListN.{length, drop}
 use Rattle.numerals.specs.Digits.{lead}
 use Rattle.numerals.proofs.Runs.{lead-more, lead-low, lead-high, lead-end}

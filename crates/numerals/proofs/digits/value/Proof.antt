@@ -1,8 +1,7 @@
 -- `digits::value`: what the bytes from here on make behind what was read is what all of them make.
-use Prim.Native.Nat.{ℕ, _≤_, _+_, _-_, _*_, _^_}
+use Prim.Native.Nat.{_≤_, _+_, _-_, _*_, _^_}
 use mathlib.Core.Path.{_≡_, refl, sym, ap, _∙_}
-use mathlib.Core.List.{List}
-use lib.ListN.{length, getD}
+use lib.ListN.{getD}
 use native.Mathlib.Nat.{sub-self}
 use Rattle.numerals.specs.Digits.{part, value}
 use Rattle.numerals.proofs.Runs.{part-cons, part-none, value-more, value-none, bound-more, bound-below}

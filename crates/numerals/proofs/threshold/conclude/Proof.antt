@@ -1,5 +1,5 @@
 -- `threshold::conclude`: what fits is within, what does not is out of range.
-use mathlib.Core.Path.{_≡_, sym, ap, _∙_}
+use mathlib.Core.Path.{sym, ap, _∙_}
 use mir.Facts.{toZ-ofZ}
 use Rattle.numbers.specs.Rounding.{fittedTo}
 use Rattle.numerals.specs.Threshold.{concluded}

@@ -1,5 +1,5 @@
 -- `threshold::copied`: after i turns the copy of i bytes.
-use Prim.Native.Nat.{ℕ, _≤_, _<_, _+_, _-_}
+use Prim.Native.Nat.{_≤_, _-_}
 use mathlib.Core.Path.{_≡_, ap, _∙_}
 use native.Mathlib.Numerals.{add-one}
 use lib.ListN.{length, drop, length-drop}

@@ -1,6 +1,6 @@
 -- `threshold::digits_from`: the run of digits, and where a point stands behind it the run behind the point.
-use Prim.Native.Nat.{ℕ, _+_, _≤_}
-use mathlib.Core.Path.{_≡_, sym, _∙_}
+use Prim.Native.Nat.{_+_}
+use mathlib.Core.Path.{sym, _∙_}
 use Prim.Native.Char.{code}
 use Rattle.numerals.proofs.Runs.{head-in, run-in}
 use Rattle.numerals.proofs.Judging.{point-there, point-not}

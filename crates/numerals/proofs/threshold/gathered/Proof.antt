@@ -1,8 +1,8 @@
 -- `threshold::gathered`: the two runs stand one behind the other in the twelve places.
-use Prim.Native.Nat.{ℕ, _+_, _-_, _≤_}
-use mathlib.Core.Path.{_≡_, refl, ap, _∙_}
+use Prim.Native.Nat.{ℕ, _+_, _-_}
+use mathlib.Core.Path.{refl, ap, _∙_}
 use mathlib.Core.List.{List}
-use lib.ListN.{length, drop, replicate, length-drop}
+use lib.ListN.{drop, replicate, length-drop}
 use lib.Seq.{paste}
 use Rattle.numerals.specs.Digits.{part, value}
 use Rattle.numerals.proofs.Judging.{two-runs}

@@ -1,5 +1,5 @@
 -- `threshold::power_at`: nothing, or E and a power behind it.
-use mathlib.Core.Path.{_≡_, sym, _∙_}
+use mathlib.Core.Path.{sym, _∙_}
 use Rattle.numerals.proofs.Powers.{power-none, power-e, power-other}
 use borrow.Author.Needs.{needs}
 use native.Mathlib.Omega.{arith}

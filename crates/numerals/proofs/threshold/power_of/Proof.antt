@@ -1,6 +1,6 @@
 -- `threshold::power_of`: the number, below a hundred, with its sign.
-use Prim.Native.Nat.{ℕ, _+_, _<_}
-use mathlib.Core.Path.{_≡_, refl, sym, ap, _∙_}
+use Prim.Native.Nat.{_<_}
+use mathlib.Core.Path.{sym, ap, _∙_}
 use lib.ListN.{drop}
 use lib.IntN.{pos, negℤ}
 use mir.Syntax.{w32}

@@ -1,5 +1,5 @@
 -- `threshold::threshold_in`: the plus decides where the digits begin.
-use mathlib.Core.Path.{_≡_, sym, _∙_}
+use mathlib.Core.Path.{sym, _∙_}
 use Prim.Native.Char.{code}
 use Rattle.numerals.proofs.Runs.{head-in}
 use Rattle.numerals.proofs.Judging.{plus-there, plus-not}

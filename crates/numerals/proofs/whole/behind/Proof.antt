@@ -1,10 +1,9 @@
 -- `whole::behind`: nothing, or a point with digits that are read as a number.
-use Prim.Native.Nat.{ℕ, _+_, _-_, _*_, _^_, _≤_}
-use mathlib.Core.Path.{_≡_, sym, ap, _∙_}
+use Prim.Native.Nat.{ℕ, _+_, _-_, _*_}
+use mathlib.Core.Path.{sym, ap, _∙_}
 use lib.ListN.{length, drop, length-drop}
 use Rattle.numerals.specs.Whole.{thousandths}
-use Rattle.numerals.specs.declared.whole.Numeral.the-variants.{Number, Malformed}
-use Rattle.numerals.proofs.Runs.{head-in}
+use Rattle.numerals.specs.declared.whole.Numeral.the-variants.{Number}
 use Rattle.numerals.proofs.Wholes.{number-read, point-none, point-at, point-not}
 use borrow.Author.Needs.{needs}
 use native.Mathlib.Omega.{arith}

@@ -1,48 +1,55 @@
 -- `whole::factor_in`: one or two digits, and what stands behind them.
-use Prim.Native.Nat.{ℕ, _+_, _-_, _≤_, _^_}
+use Prim.Native.Nat.{ℕ, _-_, _≤_}
 use mathlib.Core.Path.{_≡_, sym, ap, ap₂, _∙_}
-use lib.ListN.{length, drop}
-use Rattle.numerals.specs.Digits.{lead, rest, value}
+use mathlib.Core.Bool.{_&&_}
+use lib.Dec.{leb}
+use lib.ListN.{length}
+use Rattle.numbers.proofs.Cases.{ranged}
+use Rattle.numerals.specs.Digits.{lead, count, value}
 use Rattle.numerals.specs.Whole.{behindPoint}
 use Rattle.numerals.proofs.Runs.{run-in, run-lead, run-rest, bound-below}
-use Rattle.numerals.proofs.Wholes.{factor-none, factor-long, factor-is}
+use Rattle.numerals.proofs.Wholes.{factor-taken, factor-left}
 use borrow.Author.Needs.{needs}
 use native.Mathlib.Omega.{arith}
 use Rattle.numerals.proofs.whole.factor_in.Statement.{statement}
 use Rattle.numerals.proofs.whole.factor_in.Tie as tie
 
+test : (c : tie.After-run) → leb 1 (c .run .result) && leb (c .run .result) 2 ≡ count 1 2 (lead (c .before .before .args .s .now))
+test c =
+    let k : c .run .result ≡ length (lead (c .before .before .args .s .now)) = omega (arith, c .run .ensures) in
+    ap (λ (n : ℕ). leb 1 n && leb n 2) k
+
+few : (c : tie.Then1) → c .before .run .result - 0 ≤ 2
+few c = omega (arith, ranged 1 2 (c .before .run .result) (c .if1 .taken))
+
+small : (c : tie.After-value) → c .value .result ≤ 2277
+small c = omega (arith, bound-below (c .value .result) (c .before .before .run .result - 0) 2 (c .value .ensures .1) (few (c .before)))
+
 run-requires : tie.Need-run-requires
 run-requires c κs = search needs
 
-returns : tie.Need-returns
-returns c = factor-none (c .before .before .before .args .s .now) (omega (arith, c .before .run .ensures))
-
-returns-2 : tie.Need-returns-2
-returns-2 c = factor-long (c .before .before .before .before .args .s .now) (omega (arith, c .before .before .run .ensures))
-
 value-requires : tie.Need-value-requires
-value-requires c κs =
-    let s = c .before .before .before .before .args .s .now in
-    omega (arith, c .before .before .run .ensures, run-in s 0 (omega arith))
+value-requires c κs = omega (arith, c .before .run .ensures, run-in (c .before .before .before .args .s .now) 0 (omega arith), few c)
 
 cast-behind : tie.Need-cast-behind
-cast-behind c =
-    omega (arith, bound-below (c .value .result) (c .before .before .before .run .result - 0) 2 (c .value .ensures .1) (omega arith))
+cast-behind c = omega (arith, small c)
 
 behind-requires : tie.Need-behind-requires
 behind-requires c κs =
-    let s = c .before .before .before .before .before .args .s .now in
-    omega (arith, c .before .before .before .run .ensures, run-in s 0 (omega arith), bound-below (c .value .result) (c .before .before .before .run .result - 0) 2 (c .value .ensures .1) (omega arith))
+    omega (arith, c .before .before .run .ensures, run-in (c .before .before .before .before .args .s .now) 0 (omega arith), small c)
 
-returns-3 : tie.Need-returns-3
-returns-3 c =
-    let s = c .before .before .before .before .before .before .args .s .now in
-    let u = c .before .before .before .before .run in
+returns : tie.Need-returns
+returns c =
+    let u = c .before .before .before in
+    let s = u .before .before .args .s .now in
     c .behind .ensures
-    ∙ ap₂ behindPoint (c .before .value .ensures .0 ∙ ap (value 0) (sym (run-lead s 0 (omega arith) (u .result) (u .ensures)))) (sym (run-rest s 0 (omega arith) (u .result) (u .ensures)))
-    ∙ factor-is s (omega (arith, u .ensures)) (omega (arith, u .ensures))
+    ∙ ap₂ behindPoint (c .before .value .ensures .0 ∙ ap (value 0) (sym (run-lead s 0 (omega arith) (u .run .result) (u .run .ensures))))
+    (sym (run-rest s 0 (omega arith) (u .run .result) (u .run .ensures)))
+    ∙ factor-taken s (sym (test u) ∙ c .before .before .if1 .taken)
+
+returns-2 : tie.Need-returns-2
+returns-2 c = factor-left (c .before .before .before .args .s .now) (sym (test (c .before)) ∙ c .if1 .left)
 
 pub factor-in-spec : {M : Type 1} → statement M
 factor-in-spec =
-    tie.close
-    (tie.spec run-requires returns returns-2 value-requires cast-behind behind-requires returns-3)
+    tie.close (tie.spec run-requires value-requires cast-behind behind-requires returns returns-2)

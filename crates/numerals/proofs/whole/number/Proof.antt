@@ -1,61 +1,59 @@
--- `whole::number`: the digits end where the bytes do, and are as many as are let in.
-use Prim.Native.Nat.{ℕ, _+_, _-_, _≤_, _^_}
-use mathlib.Core.Path.{_≡_, sym, ap, _∙_}
+-- `whole::number`: its test is the definition's, and a number of at most three digits fits.
+use Prim.Native.Nat.{_-_, _≤_}
+use mathlib.Core.Path.{_≡_, sym, ap, ap₂, _∙_}
+use mathlib.Core.Bool.{_&&_}
+use lib.Dec.{leb, eqb}
 use lib.ListN.{length, drop}
-use Rattle.numerals.specs.Digits.{lead, rest, value}
-use Rattle.numerals.specs.declared.whole.Numeral.the-variants.{Number, Malformed}
-use Rattle.numerals.proofs.Runs.{run-in, run-lead, rest-length, bound-below}
-use Rattle.numerals.proofs.Wholes.{number-behind, number-none, number-long, number-is}
+use Rattle.numbers.proofs.Cases.{and-true, ranged}
+use Rattle.numerals.specs.Digits.{lead, rest, count, value}
+use Rattle.numerals.specs.declared.whole.Numeral.the-variants.{Number}
+use Rattle.numerals.proofs.Runs.{run-in, run-lead, run-all, bound-below}
+use Rattle.numerals.proofs.Wholes.{number-taken, number-left}
 use borrow.Author.Needs.{needs}
 use native.Mathlib.Omega.{arith}
 use Rattle.numerals.proofs.whole.number.Statement.{statement}
 use Rattle.numerals.proofs.whole.number.Tie as tie
 
+test : (c : tie.After-run) → let a = c .before .before .args in let x = drop (a .at) (a .s .now) in let e = c .run .result in
+    eqb e (length (a .s .now)) && (leb 1 (e - a .at) && leb (e - a .at) (a .most)) ≡ eqb (length (rest x)) 0 && count 1 (a .most) (lead x)
+test c =
+    let a = c .before .before .args in
+    let k : c .run .result - a .at ≡ length (lead (drop (a .at) (a .s .now))) = omega (arith, c .run .ensures) in
+    ap₂ (λ t n. t && (leb 1 n && leb n (a .most))) (run-all (a .s .now) (a .at) (c .run .result) (omega arith) (c .run .ensures)) k
+
+few : (c : tie.Then1) → (c .before .run .result - c .before .before .before .args .at ≤ 3)
+few c =
+    let a = c .before .before .before .args in
+    let e = c .before .run .result in
+    omega (arith, ranged 1 (a .most) (e - a .at) (and-true (eqb e (length (a .s .now))) (leb 1 (e - a .at) && leb (e - a .at) (a .most)) (c .if1 .taken) .1))
+
 run-requires : tie.Need-run-requires
 run-requires c κs = search needs
-
-returns : tie.Need-returns
-returns c =
-    let a = c .before .before .before .args in
-    let r = rest-length (a .s .now) (a .at) (c .before .run .result) (omega arith) (c .before .run .ensures) in
-    number-behind (a .most) (drop (a .at) (a .s .now)) (omega (arith, r))
 
 sub-k : tie.Need-sub-k
 sub-k c = search needs
 
-returns-2 : tie.Need-returns-2
-returns-2 c =
-    let a = c .before .before .before .before .args in
-    let r = rest-length (a .s .now) (a .at) (c .before .before .run .result) (omega arith) (c .before .before .run .ensures) in
-    number-none (a .most) (drop (a .at) (a .s .now)) (omega (arith, r, c .before .if1 .left)) (omega (arith, c .before .before .run .ensures))
-
-returns-3 : tie.Need-returns-3
-returns-3 c =
-    let a = c .before .before .before .before .before .args in
-    let u = c .before .before .before .run in
-    let r = rest-length (a .s .now) (a .at) (u .result) (omega arith) (u .ensures) in
-    number-long (a .most) (drop (a .at) (a .s .now)) (omega (arith, r, c .before .before .if1 .left)) (omega (arith, u .ensures)) (omega (arith, u .ensures))
-
 value-requires : tie.Need-value-requires
 value-requires c κs =
-    let a = c .before .before .before .before .before .args in
-    let u = c .before .before .before .run in
-    omega (arith, u .ensures, run-in (a .s .now) (a .at) (omega arith))
+    let a = c .before .before .before .args in
+    omega (arith, c .before .run .ensures, run-in (a .s .now) (a .at) (omega arith), few c)
 
-cast-t9 : tie.Need-cast-t9
-cast-t9 c =
-    let a = c .before .before .before .before .before .before .args in
-    omega (arith, bound-below (c .value .result) (c .before .before .before .before .run .result - a .at) 3 (c .value .ensures .1) (omega arith))
+cast-t12 : tie.Need-cast-t12
+cast-t12 c =
+    let b = c .before in
+    omega (arith, bound-below (c .value .result) (b .before .run .result - b .before .before .before .args .at) 3 (c .value .ensures .1) (few b))
 
-returns-4 : tie.Need-returns-4
-returns-4 c =
-    let a = c .before .before .before .before .before .before .args in
-    let u = c .before .before .before .before .run in
-    let r = rest-length (a .s .now) (a .at) (u .result) (omega arith) (u .ensures) in
-    ap Number (c .value .ensures .0 ∙ ap (value 0) (sym (run-lead (a .s .now) (a .at) (omega arith) (u .result) (u .ensures))))
-    ∙ number-is (a .most) (drop (a .at) (a .s .now)) (omega (arith, r, c .before .before .before .if1 .left)) (omega (arith, u .ensures)) (omega (arith, u .ensures))
+returns : tie.Need-returns
+returns c =
+    let u = c .before .before in
+    let a = u .before .before .args in
+    ap Number (c .value .ensures .0 ∙ ap (value 0) (sym (run-lead (a .s .now) (a .at) (omega arith) (u .run .result) (u .run .ensures))))
+    ∙ number-taken (a .most) (drop (a .at) (a .s .now)) (sym (test u) ∙ c .before .if1 .taken)
+
+returns-2 : tie.Need-returns-2
+returns-2 c =
+    let a = c .before .before .before .args in
+    number-left (a .most) (drop (a .at) (a .s .now)) (sym (test (c .before)) ∙ c .if1 .left)
 
 pub number-spec : {M : Type 1} → statement M
-number-spec =
-    tie.close
-    (tie.spec run-requires returns sub-k returns-2 returns-3 value-requires cast-t9 returns-4)
+number-spec = tie.close (tie.spec run-requires sub-k value-requires cast-t12 returns returns-2)

@@ -1,5 +1,5 @@
 -- `writing::scientific`: one digit, the point, four digits, E, the sign and two digits, put one after the other.
-use mathlib.Core.Path.{_≡_, refl, ap, _∙_}
+use mathlib.Core.Path.{ap, _∙_}
 use lib.IntN.{natAbs}
 use mir.Facts.{toZ-ofZ}
 use Rattle.numerals.specs.Writing.{scientific, signByte}

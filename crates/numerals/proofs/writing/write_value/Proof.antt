@@ -1,5 +1,5 @@
 -- `writing::write_value`: the sign, then the magnitude's digits and the exponent.
-use mathlib.Core.Path.{_≡_, ap, _∙_}
+use mathlib.Core.Path.{ap, _∙_}
 use lib.IntN.{natAbs}
 use mir.Syntax.{w32}
 use mir.Val.{SFits}

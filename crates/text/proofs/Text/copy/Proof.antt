@@ -1,5 +1,5 @@
 -- `Text::copy`: each test that fails leaves the output as it was; past them all the text lands whole.
-use mathlib.Core.Path.{_≡_, refl, sym, _∙_}
+use mathlib.Core.Path.{_∙_}
 use Rattle.text.proofs.Texts.{lands-long, lands-short, lands-whole, kept, written}
 use borrow.Author.Needs.{needs}
 use native.Mathlib.Omega.{arith}

@@ -1,7 +1,7 @@
 -- `Text::factor`: the thousands, the point and three digits, put one after the other.
 use Prim.Native.Nat.{_/_}
 use Prim.Native.Char.{code}
-use mathlib.Core.Path.{_≡_, sym}
+use mathlib.Core.Path.{sym}
 use mathlib.Core.List.{_∷_}
 use Rattle.text.specs.Digits.{dig, wholeText}
 use Rattle.text.proofs.Texts.{puts-append}

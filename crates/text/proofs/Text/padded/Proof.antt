@@ -1,6 +1,6 @@
 -- `Text::padded`: the last digits, as many as the smaller of the width and ten.
-use Prim.Native.Nat.{ℕ, _-_, _+_, min}
-use mathlib.Core.Path.{_≡_, sym, ap, _∙_}
+use Prim.Native.Nat.{ℕ, _-_, _+_}
+use mathlib.Core.Path.{_≡_, ap, _∙_}
 use native.Mathlib.Nat.{min-eq-left, min-eq-right, le-of-lt}
 use lib.ListN.{drop}
 use Rattle.text.specs.Digits.{dig}

@@ -1,6 +1,6 @@
 -- `Text::tail`: the digits put, and those still to put, are all from the start on.
 use Prim.Native.Nat.{_≤_, _-_}
-use mathlib.Core.Path.{_≡_, refl, sym, ap, _∙_}
+use mathlib.Core.Path.{_≡_, sym, ap, _∙_}
 use lib.ListN.{length, drop, drop-of-length-le}
 use Rattle.text.specs.Text.{puts}
 use Rattle.text.proofs.Texts.{puts-next}

@@ -1,6 +1,6 @@
 -- `Text::whole`: what was passed are leading zeros, so the digits from here on are bare where all are.
-use Prim.Native.Nat.{_≤_, _-_, _+_}
-use mathlib.Core.Path.{_≡_, refl, sym, ap, _∙_}
+use Prim.Native.Nat.{_≤_, _-_}
+use mathlib.Core.Path.{_≡_, refl, ap, _∙_}
 use lib.ListN.{length, drop}
 use Rattle.text.specs.Digits.{bare}
 use Rattle.text.specs.Text.{puts}

@@ -1,6 +1,5 @@
 -- `Threshold::fitted`: zero, a far power, or the rounded number within the stops or not.
 use mathlib.Core.Path.{_≡_, sym, ap, _∙_}
-use lib.IntN.{ℤ, negsuc, pos}
 use mir.Facts.{toZ-ofZ}
 use Rattle.numbers.specs.Numbers.{withinStops}
 use Rattle.numbers.specs.Rounding.{rounded}

@@ -9,13 +9,6 @@ use borrow.Author.Tests.{lt-ltb, le-ltb}
 use Rattle.numbers.proofs.Cases.{below}
 use Rattle.numbers.specs.Rounding.{climbWithin, climb}
 
-within-most : (fuel n to : ℕ) → climbWithin fuel n to ≤ fuel
-unfolding climbWithin
-within-most zero n to = omega arith
-within-most (suc k) n to =
-    ⊎-elim (λ (l : n < to). rw (lt-ltb n to l) (omega (arith, within-most k (n * 10) to)))
-    (λ (g : to ≤ n). rw (le-ltb n to g) (omega arith)) (below n to)
-
 within-reaches : (fuel n to : ℕ) → to ≤ n * 10 ^ fuel → to ≤ n * 10 ^ climbWithin fuel n to
 unfolding climbWithin
 within-reaches zero n to h = h
@@ -32,9 +25,6 @@ within-least (suc k) n to (suc j) h =
     ⊎-elim (λ (l : n < to). let z : suc j < suc (climbWithin k (n * 10) to) = rw (lt-ltb n to l) at h in
     rw (pow-succ', ← mul-assoc) (within-least k (n * 10) to j (omega arith)))
     (λ (g : to ≤ n). absurd (let z : suc j < 0 = rw (le-ltb n to g) at h in omega arith)) (below n to)
-
-pub climb-most : (n to : ℕ) → climb n to ≤ 18
-climb-most = within-most 18
 
 -- the mark is reached
 pub climb-reaches : (n to : ℕ) → 1 ≤ n → to ≤ 1000000000000000000 → to ≤ n * 10 ^ climb n to

@@ -234,6 +234,21 @@ module _ (n d : ℕ) (some : 1 ≤ n) (most : n < 2 ^ 64) (part : 1 ≤ d) (part
       (λ q. nearest-same n d x (five n d) e 10000 (e +ℤ pos 1) (rw q (omega (arith, tens-more e 1))) (five-nearest x))
       (λ l. five-nearest x)
 
+-- no two numbers are nearest: neither can lie below the other
+nearest-not-below : (n d : ℕ) (x : ℤ) (m : ℕ) (e : ℤ) (k : ℕ) (f : ℤ) → Nearest n d x m e → Nearest n d x k f
+    → (10000 ≤ m) × (m ≤ 99999) → (10000 ≤ k) × (k ≤ 99999) → m * (tens e * tenths f) < k * (tens f * tenths e) → ⊥
+nearest-not-below n d x m e k f r s a b h = omega (arith, r .above k f (b .0) (b .1) h, s .below m e (a .0) (a .1) h)
+
+pub nearest-only : (n d : ℕ) (x : ℤ) (m : ℕ) (e : ℤ) (k : ℕ) (f : ℤ) → Nearest n d x m e → Nearest n d x k f
+    → (10000 ≤ m) × (m ≤ 99999) → (10000 ≤ k) × (k ≤ 99999) → m * (tens e * tenths f) ≡ k * (tens f * tenths e)
+nearest-only n d x m e k f r s a b =
+    ⊎-elim (λ (l : m * (tens e * tenths f) < k * (tens f * tenths e)). absurd (nearest-not-below n d x m e k f r s a b l))
+    (λ (g : k * (tens f * tenths e) ≤ m * (tens e * tenths f)).
+    ⊎-elim (λ (l : k * (tens f * tenths e) < m * (tens e * tenths f)). absurd (nearest-not-below n d x k f m e s r b a l))
+    (λ (g′ : m * (tens e * tenths f) ≤ k * (tens f * tenths e)). omega arith)
+    (below (k * (tens f * tenths e)) (m * (tens e * tenths f))))
+    (below (m * (tens e * tenths f)) (k * (tens f * tenths e)))
+
 five-exact : (m : ℕ) → 10000 ≤ m → m ≤ 99999 → five m 1 ≡ m
 unfolding five
 five-exact m l h = rw (climb-none m (1 * 10000) (omega arith), climb-none 1 (m / 100000 + 1) (omega arith)) (omega arith)

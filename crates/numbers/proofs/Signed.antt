@@ -1,13 +1,13 @@
 -- What code on signed numbers leaves: a local holds bits, so each use reads toZ w (ofZ w x), which is x where x fits.
 use Prim.Native.Nat.{ℕ, zero, suc, _+_, _-_, _^_, _≤_, _<_}
-use mathlib.Core.Path.{_≡_, refl, sym, subst}
+use mathlib.Core.Path.{_≡_, refl, subst}
 use mathlib.Core.Bool.{Bool, true, false, cond}
 use mathlib.Core.Logic.{⊎-elim}
 use native.Mathlib.Omega.{arith}
-use borrow.Author.Tests.{ltb-true, ltb-false, leb-true, leb-false, lt-leb, le-leb}
+use borrow.Author.Tests.{ltb-true, leb-true, leb-false, le-leb}
 use lib.Dec.{T, leb, ltb}
 use lib.IntN.{ℤ, pos, negsuc, negℤ, natAbs, subℕ, _+ℤ_, _-ℤ_, +ℤ-idl}
-use lib.Signed.{mag, ltZ, leZ, nonNeg, natAbs-le}
+use lib.Signed.{mag, ltZ, nonNeg, natAbs-le}
 use mir.Syntax.{w32, w64}
 use mir.Val.{SFits}
 use Rattle.numbers.specs.Numbers.{between}
@@ -58,18 +58,6 @@ abs-add (negsuc a) (negsuc b) = omega arith
 
 pub abs-minus : (a b : ℤ) → natAbs (a -ℤ b) ≤ natAbs a + natAbs b
 abs-minus a b = omega (arith, abs-add a (negℤ b), abs-neg b)
-
-pub lt-not-le : (a b : ℤ) → ltZ a b ≡ true → leZ b a ≡ false
-lt-not-le (pos a) (pos b) e = lt-leb b a (ltb-true a b e)
-lt-not-le (pos a) (negsuc b) e = sym e
-lt-not-le (negsuc a) (pos b) e = refl
-lt-not-le (negsuc a) (negsuc b) e = lt-leb a b (ltb-true b a e)
-
-pub ge-le : (a b : ℤ) → ltZ a b ≡ false → leZ b a ≡ true
-ge-le (pos a) (pos b) e = le-leb b a (ltb-false a b e)
-ge-le (pos a) (negsuc b) e = refl
-ge-le (negsuc a) (pos b) e = sym e
-ge-le (negsuc a) (negsuc b) e = le-leb a b (ltb-false b a e)
 
 -- an exponent within limits as far below zero as above it
 pub between-near : (k : ℕ) (e : ℤ) → between (negsuc k) (pos (suc k)) e ≡ true → natAbs e ≤ suc k

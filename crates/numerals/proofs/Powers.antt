@@ -3,7 +3,8 @@ use Prim.Native.Nat.{ℕ, _+_, _≤_, _<_}
 use Prim.Native.Char.{code}
 use mathlib.Core.Path.{_≡_, refl}
 use mathlib.Core.List.{List}
-use mathlib.Core.Bool.{Bool, true, false, cond}
+use mathlib.Core.Bool.{Bool, true, false, cond, _||_}
+use mathlib.Core.Logic.{⊎-elim}
 use native.Mathlib.Omega.{arith}
 use borrow.Author.Tests.{eq-eqb, ne-eqb}
 use lib.ListN.{length, drop, length-drop}
@@ -11,29 +12,28 @@ use lib.Dec.{eqb}
 use lib.IntN.{pos, natAbs}
 use Rattle.numerals.specs.Digits.{headIs}
 use Rattle.numerals.specs.Whole.{numberOf}
-use Rattle.numerals.specs.Threshold.{withSign, signedPower, powerOf}
+use Rattle.numerals.specs.Threshold.{withSign, afterSign, signedPower, powerOf}
 use Rattle.numerals.specs.declared.threshold.Power.{Power}
 use Rattle.numerals.specs.declared.threshold.Power.the-variants.{Ten, NoPower}
 use Rattle.numerals.specs.declared.whole.Numeral.{Numeral}
 use Rattle.numerals.specs.declared.whole.Numeral.the-variants.{Number, Malformed}
-use Rattle.numbers.proofs.Cases.{cond-cases}
+use Rattle.numbers.proofs.Cases.{cond-cases, or-true}
 use Rattle.numerals.proofs.Runs.{drop-one, head-in}
 use Rattle.numbers.proofs.Signed.{abs-neg}
 use Rattle.numerals.proofs.Wholes.{number-read}
 
 module _ (i : ℕ) (s : List ℕ) where
-  pub power-minus : headIs (code "-") (drop i s) ≡ true → withSign true (numberOf 2 (drop (i + 1) s)) ≡ signedPower (drop i s)
-  unfolding signedPower
-  power-minus e = rw (e, drop-one i s)
+  pub sign-there : headIs (code "-") (drop i s) || headIs (code "+") (drop i s) ≡ true → drop (i + 1) s ≡ afterSign (drop i s)
+  unfolding afterSign
+  sign-there e = rw (e, drop-one i s)
 
-  pub power-plus : headIs (code "-") (drop i s) ≡ false → headIs (code "+") (drop i s) ≡ true
-      → withSign false (numberOf 2 (drop (i + 1) s)) ≡ signedPower (drop i s)
-  unfolding signedPower
-  power-plus e f = rw (e, f, drop-one i s)
+  pub sign-not : headIs (code "-") (drop i s) || headIs (code "+") (drop i s) ≡ false → drop i s ≡ afterSign (drop i s)
+  unfolding afterSign
+  sign-not e = rw e
 
-  pub power-bare : headIs (code "-") (drop i s) ≡ false → headIs (code "+") (drop i s) ≡ false → withSign false (numberOf 2 (drop i s)) ≡ signedPower (drop i s)
-  unfolding signedPower
-  power-bare e f = rw (e, f)
+  -- a sign that is there has a place
+  pub sign-in : headIs (code "-") (drop i s) || headIs (code "+") (drop i s) ≡ true → i < length s
+  sign-in e = ⊎-elim (head-in (code "-") i s) (head-in (code "+") i s) (or-true _ _ e)
 
   pub power-none : i ≡ length s → Ten (pos 0) ≡ powerOf (drop i s)
   unfolding powerOf
@@ -52,22 +52,13 @@ abbrev pub TwoDigits : Power → Type 0
 TwoDigits (Ten e) = natAbs e < 100
 TwoDigits NoPower = Unit {0}
 
-sign-two : (minus : Bool) (s : List ℕ) → TwoDigits (withSign minus (numberOf 2 s))
-sign-two minus s = go minus (numberOf 2 s) refl
-  where
-    go : (b : Bool) (t : Numeral) → numberOf 2 s ≡ t → TwoDigits (withSign b t)
-    go true (Number n) e = omega (arith, number-read 2 s n e .small, abs-neg (pos n))
-    go false (Number n) e = number-read 2 s n e .small
-    go b Malformed e = tt
-
 signed-two : (s : List ℕ) → TwoDigits (signedPower s)
-unfolding signedPower
-signed-two s =
-    let minus = withSign true (numberOf 2 (drop 1 s)) in
-    let plus = withSign false (numberOf 2 (drop 1 s)) in
-    let bare = withSign false (numberOf 2 s) in
-    cond-cases TwoDigits (headIs (code "-") s) minus (cond (headIs (code "+") s) plus bare) (λ _. sign-two true (drop 1 s))
-    (λ _. cond-cases TwoDigits (headIs (code "+") s) plus bare (λ _. sign-two false (drop 1 s)) (λ _. sign-two false s))
+signed-two s = go (headIs (code "-") s) (numberOf 2 (afterSign s)) refl
+  where
+    go : (b : Bool) (t : Numeral) → numberOf 2 (afterSign s) ≡ t → TwoDigits (withSign b t)
+    go true (Number n) e = omega (arith, number-read 2 (afterSign s) n e .small, abs-neg (pos n))
+    go false (Number n) e = number-read 2 (afterSign s) n e .small
+    go b Malformed e = tt
 
 pub power-two : (s : List ℕ) → TwoDigits (powerOf s)
 unfolding powerOf

@@ -24,7 +24,7 @@ use Rattle.numbers.proofs.Nearest.{round-exact}
 use Rattle.numbers.proofs.Stops.{stops-digits, stops-near, fitted-within}
 use Rattle.numerals.specs.Digits.{isDigit, lead, rest, headIs, value}
 use Rattle.numerals.specs.Whole.{numberOf, wholeOf, behindPoint, factorOf}
-use Rattle.numerals.specs.Threshold.{afterPlus, signedPower, powerOf, concluded, weighed, judged, fraction, afterFraction, thresholdOf}
+use Rattle.numerals.specs.Threshold.{afterPlus, afterSign, powerOf, concluded, weighed, judged, fraction, afterFraction, thresholdOf}
 use Rattle.numerals.specs.declared.threshold.ThresholdNumeral.the-variants.{Within}
 use Rattle.numerals.specs.declared.threshold.Power.the-variants.{Ten}
 use Rattle.numerals.specs.declared.whole.Numeral.the-variants.{Number}
@@ -159,7 +159,7 @@ factor-round t h =
 -- ---- thresholds
 
 power-round : (e : ℤ) → natAbs e < 100 → powerOf (code "E" ∷ signByte e ∷ dig 2 (natAbs e)) ≡ Ten e
-unfolding powerOf signedPower headIs
+unfolding powerOf afterSign headIs
 power-round (pos n) h = rw (number-last 2 2 n (omega arith) (omega arith), mod-eq-of-lt h)
 power-round (negsuc n) h = rw (number-last 2 2 (suc n) (omega arith) (omega arith), mod-eq-of-lt h)
 

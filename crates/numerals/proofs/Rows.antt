@@ -9,7 +9,7 @@ use Rattle.numerals.specs.Writing.{scientific, thresholdText}
 use Rattle.numbers.specs.Rounding.{climbWithin, five, power, rounded, fittedTo}
 use Rattle.numerals.specs.Digits.{lead, rest, headIs, value}
 use Rattle.numerals.specs.Whole.{numberOf, behindPoint, factorOf}
-use Rattle.numerals.specs.Threshold.{afterPlus, signedPower, powerOf, judged, fraction, afterFraction, thresholdOf}
+use Rattle.numerals.specs.Threshold.{afterPlus, afterSign, powerOf, judged, fraction, afterFraction, thresholdOf}
 use Rattle.numerals.specs.declared.threshold.ThresholdNumeral.{ThresholdNumeral}
 use Rattle.numerals.specs.declared.threshold.ThresholdNumeral.the-variants.{Within, Malformed as NoThreshold, OutOfRange}
 use Rattle.numerals.specs.declared.whole.Numeral.{Numeral}
@@ -66,5 +66,5 @@ rows =
     ∷ []
 
 pub rows-hold : map (λ (r : Row). says (r .kind) (ascii (r .sent))) rows ≡ map (λ (r : Row). ascii (r .said)) rows
-unfolding bare scientific climbWithin five power rounded fittedTo lead rest headIs value numberOf behindPoint factorOf afterPlus signedPower powerOf judged fraction afterFraction thresholdOf
+unfolding bare scientific climbWithin five power rounded fittedTo lead rest headIs value numberOf behindPoint factorOf afterPlus afterSign powerOf judged fraction afterFraction thresholdOf
 rows-hold = refl

@@ -4,7 +4,7 @@
 use Prim.Native.Nat.{ℕ}
 use Prim.Native.Char.{code}
 use mathlib.Core.List.{List, [], _++_}
-use mathlib.Core.Bool.{Bool, true, false, cond}
+use mathlib.Core.Bool.{Bool, cond, _||_}
 use lib.ListN.{length, drop}
 use lib.Dec.{eqb}
 use lib.IntN.{pos, negℤ, _-ℤ_}
@@ -24,15 +24,16 @@ use Rattle.numerals.specs.declared.whole.Numeral.the-variants.{Number as
 unfoldable pub afterPlus : List ℕ → List ℕ
 afterPlus s = cond (headIs (code "+") s) (drop 1 s) s
 
+-- "an optional sign and one or two digits"
 abbrev pub withSign : Bool → Numeral → Power
 withSign minus (Digits n) = Ten (cond minus (negℤ (pos n)) (pos n))
 withSign minus NoDigits = NoPower
 
--- "an optional sign and one or two digits"
-unfoldable pub signedPower : List ℕ → Power
-signedPower s =
-    cond (headIs (code "-") s) (withSign true (numberOf 2 (drop 1 s)))
-    (cond (headIs (code "+") s) (withSign false (numberOf 2 (drop 1 s))) (withSign false (numberOf 2 s)))
+unfoldable pub afterSign : List ℕ → List ℕ
+afterSign s = cond (headIs (code "-") s || headIs (code "+") s) (drop 1 s) s
+
+abbrev pub signedPower : List ℕ → Power
+signedPower s = withSign (headIs (code "-") s) (numberOf 2 (afterSign s))
 
 -- "then optionally E": without it the power is 0
 unfoldable pub powerOf : List ℕ → Power

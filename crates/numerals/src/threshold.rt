@@ -48,17 +48,17 @@ fn power_of(s: &[u8], at: usize, minus: bool) -> Power
     }
 }
 
+// An optional sign and a power of ten from `at` on.
 fn signed_power(s: &[u8], at: usize) -> Power
     requires { ⌜ at ≤ length (now s) ⌝ }
     ensures { λ r. ⌜ r ≡ signedPower (drop at (now (s .entry))) ⌝ }
 {
-    if is_at(s, at, b'-') {
-        return power_of(s, at + 1, true);
+    let minus = is_at(s, at, b'-');
+    let plus = is_at(s, at, b'+');
+    if minus | plus {
+        return power_of(s, at + 1, minus);
     }
-    if is_at(s, at, b'+') {
-        return power_of(s, at + 1, false);
-    }
-    power_of(s, at, false)
+    power_of(s, at, minus)
 }
 
 // What stands behind the digits: nothing, or E and a power.
@@ -144,6 +144,7 @@ fn digits_from(s: &[u8], a: usize) -> ThresholdNumeral
     judge(s, a, p, p, p)
 }
 
+// The whole of s as a threshold.
 fn threshold_in(s: &[u8]) -> ThresholdNumeral
     ensures { λ r. ⌜ r ≡ thresholdOf (now (s .entry)) ⌝ }
 {
@@ -153,6 +154,7 @@ fn threshold_in(s: &[u8]) -> ThresholdNumeral
     digits_from(s, 0)
 }
 
+// The threshold in s from start up to end.
 pub fn read_threshold(s: &[u8], start: usize, end: usize) -> ThresholdNumeral
     ensures { λ r. ⌜ r ≡ thresholdOf (part start end (now (s .entry))) ⌝ }
 {

@@ -30,6 +30,7 @@ pub(crate) fn number(s: &[u8], at: usize, most: usize) -> Numeral
     Numeral::Malformed
 }
 
+// The whole number in s from start up to end.
 pub fn read_whole(s: &[u8], start: usize, end: usize) -> Numeral
     ensures { λ r. ⌜ r ≡ wholeOf (part start end (now (s .entry))) ⌝ }
 {
@@ -68,6 +69,7 @@ fn behind(n: u32, s: &[u8], p: usize) -> Numeral
     Numeral::Malformed
 }
 
+// The whole of s as a factor.
 fn factor_in(s: &[u8]) -> Numeral
     ensures { λ r. ⌜ r ≡ factorOf (now (s .entry)) ⌝ }
 {
@@ -79,6 +81,7 @@ fn factor_in(s: &[u8]) -> Numeral
     Numeral::Malformed
 }
 
+// The factor in s from start up to end.
 pub fn read_factor(s: &[u8], start: usize, end: usize) -> Numeral
     ensures { λ r. ⌜ r ≡ factorOf (part start end (now (s .entry))) ⌝ }
 {

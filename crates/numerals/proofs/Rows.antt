@@ -1,33 +1,29 @@
 -- The starred threshold and factor rows of 01, "Lines on either side", as one statement over a list of them.
 use Prim.Native.Nat.{ℕ}
-use Prim.Native.String.{String, [] as []ˢ, _∷_ as _∷ˢ_}
-use Prim.Native.Char.{code}
+use Prim.Native.String.{String}
 use mathlib.Core.Path.{_≡_, refl}
-use mathlib.Core.List.{List, [], _∷_, map}
-use Rattle.text.specs.Digits.{bare, factorText}
+use mathlib.Core.List.{List, [], _∷_, _++_, map}
+use Rattle.text.specs.Text.{ascii}
+use Rattle.text.specs.Digits.{dig, bare, factorText}
 use Rattle.numerals.specs.Writing.{scientific, thresholdText}
 use Rattle.numbers.specs.Rounding.{climbWithin, five, power, rounded, fittedTo}
 use Rattle.numerals.specs.Digits.{lead, rest, headIs, value}
-use Rattle.numerals.specs.Whole.{numberOf, behindPoint, factorOf}
-use Rattle.numerals.specs.Threshold.{afterPlus, afterSign, powerOf, judged, fraction, afterFraction, thresholdOf}
+use Rattle.numerals.specs.Whole.{numeralFault, numberOf, behindPoint, factorOf}
+use Rattle.numerals.specs.Threshold.{thresholdFault, afterPlus, afterSign, powerOf, judged, fraction, afterFraction, thresholdOf}
 use Rattle.numerals.specs.declared.threshold.ThresholdNumeral.{ThresholdNumeral}
 use Rattle.numerals.specs.declared.threshold.ThresholdNumeral.the-variants.{Within, Malformed as NoThreshold, OutOfRange}
 use Rattle.numerals.specs.declared.whole.Numeral.{Numeral}
 use Rattle.numerals.specs.declared.whole.Numeral.the-variants.{Number, Malformed}
 
-abbrev pub ascii : String → List ℕ
-ascii []ˢ = []
-ascii (c ∷ˢ s) = code c ∷ ascii s
-
--- what the box answers to a threshold that is sent: it as written, or the error word
+-- what is answered to what is sent: the number as it is written, or the error word
 abbrev pub thresholdSays : ThresholdNumeral → List ℕ
 thresholdSays (Within t) = thresholdText t
-thresholdSays NoThreshold = ascii "0001"
-thresholdSays OutOfRange = ascii "0010"
+thresholdSays NoThreshold = dig 4 (thresholdFault NoThreshold)
+thresholdSays OutOfRange = dig 4 (thresholdFault OutOfRange)
 
 abbrev pub factorSays : Numeral → List ℕ
 factorSays (Number t) = factorText t
-factorSays Malformed = ascii "0001"
+factorSays Malformed = dig 4 (numeralFault Malformed)
 
 pub data Kind : Type 0 where
   threshold : Kind
@@ -65,6 +61,36 @@ rows =
     ∷ row factor "10" "10.000"
     ∷ []
 
-pub rows-hold : map (λ (r : Row). says (r .kind) (ascii (r .sent))) rows ≡ map (λ (r : Row). ascii (r .said)) rows
+-- what 01 leaves to be decided about the form of a number (docs/DECISIONS.md, 1 to 4)
+abbrev pub decided : List Row
+decided =
+    row threshold "000000000012" "1.2000E+01"
+    ∷ row threshold "0000000000012" "0001"
+    ∷ row threshold "+.5E+0" "5.0000E-01"
+    ∷ row threshold "1E-99" "0010"
+    ∷ row threshold "0.000001E+12" "1.0000E+06"
+    ∷ row threshold "5E" "0001"
+    ∷ row threshold "5E+" "0001"
+    ∷ row threshold "5E003" "0001"
+    ∷ row threshold "5+3" "0001"
+    ∷ row threshold "5e3" "0001"
+    ∷ row threshold "-5" "0001"
+    ∷ row threshold "1.2.3" "0001"
+    ∷ row threshold "" "0001"
+    ∷ row factor "" "0001"
+    ∷ row factor ".5" "0001"
+    ∷ row factor "1." "0001"
+    ∷ row factor "1.0000" "0001"
+    ∷ row factor "100" "0001"
+    ∷ row factor "+1" "0001"
+    ∷ []
+
+abbrev pub answers : List Row → List (List ℕ)
+answers = map (λ (r : Row). says (r .kind) (ascii (r .sent)))
+
+abbrev pub expected : List Row → List (List ℕ)
+expected = map (λ (r : Row). ascii (r .said))
+
+pub rows-hold : answers (rows ++ decided) ≡ expected (rows ++ decided)
 unfolding bare scientific climbWithin five power rounded fittedTo lead rest headIs value numberOf behindPoint factorOf afterPlus afterSign powerOf judged fraction afterFraction thresholdOf
 rows-hold = refl

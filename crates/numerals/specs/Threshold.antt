@@ -20,6 +20,12 @@ use Rattle.numerals.specs.declared.threshold.Power.the-variants.{Ten, No
 use Rattle.numerals.specs.declared.whole.Numeral.{Numeral}
 use Rattle.numerals.specs.declared.whole.Numeral.the-variants.{Number as Digits, Malformed as NoDigits}
 
+-- 01's error word for each case: 0001, syntax, for a fault of form, and 0010, inadmissible parameter, for one of value
+abbrev pub thresholdFault : ThresholdNumeral → ℕ
+thresholdFault (Within t) = 0
+thresholdFault Malformed = 1
+thresholdFault OutOfRange = 10
+
 -- "an optional plus": what stands behind it
 unfoldable pub afterPlus : List ℕ → List ℕ
 afterPlus s = cond (headIs (code "+") s) (drop 1 s) s

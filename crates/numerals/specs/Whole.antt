@@ -9,6 +9,11 @@ use Rattle.numerals.specs.Digits.{lead, rest, headIs, count, value}
 use Rattle.numerals.specs.declared.whole.Numeral.{Numeral}
 use Rattle.numerals.specs.declared.whole.Numeral.the-variants.{Number, Malformed}
 
+-- 01's error word for each case: 0001, syntax, for a fault of form
+abbrev pub numeralFault : Numeral → ℕ
+numeralFault (Number n) = 0
+numeralFault Malformed = 1
+
 -- one to `most` digits and nothing behind them
 unfoldable pub numberOf : ℕ → List ℕ → Numeral
 numberOf most s = cond (eqb (length (rest s)) 0 && count 1 most (lead s)) (Number (value 0 (lead s))) Malformed

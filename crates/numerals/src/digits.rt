@@ -8,14 +8,12 @@ ghost use Rattle.numerals.specs.Digits.{part, lead, headIs, value};
 pub(crate) fn part(s: &[u8], start: usize, end: usize) -> &[u8]
     ensures { λ r. ⌜ now r ≡ part start end (now (s .entry)) ⌝ }
 {
-    if end < s.len() {
-        if start < end {
-            return &s[start..end];
-        }
-        return &s[..0];
+    let mut e = s.len();
+    if end < e {
+        e = end;
     }
-    if start < s.len() {
-        return &s[start..];
+    if start < e {
+        return &s[start..e];
     }
     &s[..0]
 }

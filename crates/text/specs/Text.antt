@@ -1,11 +1,18 @@
 -- A reply of at most 64 bytes (01, "Answer numbers of the calls": 64 output bytes are free before each byte taken).
 use Prim.Native.Nat.{ℕ, _+_}
+use Prim.Native.String.{String, [] as []ˢ, _∷_ as _∷ˢ_}
+use Prim.Native.Char.{code}
 use mathlib.Core.List.{List, [], _∷_}
 use mathlib.Core.Bool.{Bool, cond, _&&_}
 use lib.ListN.{length, set, replicate}
 use lib.Seq.{paste}
 use lib.Dec.{leb, ltb}
 use Rattle.text.specs.declared.Text.{Text}
+
+-- the bytes of a quoted text
+abbrev pub ascii : String → List ℕ
+ascii []ˢ = []
+ascii (c ∷ˢ s) = code c ∷ ascii s
 
 abbrev pub empty : Text
 empty = record { bytes = replicate 64 0; len = 0 }

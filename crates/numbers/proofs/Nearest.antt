@@ -1,24 +1,21 @@
 -- Five significant digits, half upwards: where n / d is placed, how far its digits and its power reach, and that they are the nearest.
 use Prim.Native.Nat.{ℕ, suc, _+_, _-_, _*_, _/_, _%_, _^_, _≤_, _<_}
-use mathlib.Core.Path.{_≡_, refl, sym, ap, _∙_}
-use mathlib.Core.Bool.{true, false, _&&_}
+use mathlib.Core.Path.{_≡_, sym, ap, _∙_}
 use mathlib.Core.Logic.{⊎-elim}
 use native.Mathlib.Omega.{arith}
 use native.Mathlib.Nat.{mul-le-mul, mul-le-mul-right, mul-lt-mul-of-pos-right, lt-of-mul-lt-mul-right, le-of-mul-le-mul-right, mul-pos, one-le-pow}
 use native.Mathlib.Nat.{div-mul-le-self, lt-div-mul-add, le-div-iff-mul-le, div-lt-iff-lt-mul, div-eq-of-lt-le, div-add-mod', mod-lt}
 use lib.Pow.{pow-add}
 use borrow.Author.Tests.{eqb-true, eqb-false, ne-eqb}
-use lib.Dec.{leb, eqb}
-use lib.IntN.{ℤ, pos, negsuc, natAbs, _+ℤ_, _-ℤ_, +ℤ-idr, -ℤ-+ℤ-cancel, +ℤ-negℤ-cancel}
-use Rattle.numbers.proofs.Cases.{below, and-true, cond-cases, ranged}
+use lib.Dec.{eqb}
+use lib.IntN.{ℤ, pos, natAbs, _+ℤ_, _-ℤ_, +ℤ-idr, -ℤ-+ℤ-cancel, +ℤ-negℤ-cancel}
+use Rattle.numbers.proofs.Cases.{below, cond-cases}
 use Rattle.numbers.proofs.Climb.{climb-reaches, climb-enough, climb-none, climb-short}
-use Rattle.numbers.proofs.Signed.{abs-add, abs-minus, abs-neg, between-near}
+use Rattle.numbers.proofs.Signed.{abs-add, abs-minus}
 use Rattle.numbers.proofs.Fractions.{tens-some, tenths-some, tens-more, tens-apart, tens-level}
-use Rattle.numbers.specs.Numbers.{fiveDigits, between, isFive, signed, tens, tenths}
-use Rattle.numbers.specs.Rounding.{nearest, up, down, five, power, rounded, isUsable, product, scaledBy, Nearest}
+use Rattle.numbers.specs.Numbers.{tens, tenths}
+use Rattle.numbers.specs.Rounding.{nearest, up, down, five, power, rounded, Nearest}
 use Rattle.numbers.specs.declared.threshold.Threshold.{Threshold}
-use Rattle.numbers.specs.declared.value.Value.{Value}
-use Rattle.numbers.specs.declared.value.Ratio.{Ratio}
 
 -- the quotient, or one more where the remainder is at least half of d
 module _ (n d : ℕ) (h : 0 < d) where
@@ -262,46 +259,3 @@ power-exact m e l h =
 pub round-exact : (m : ℕ) (e : ℤ) → 10000 ≤ m → m ≤ 99999 → rounded m 1 (e -ℤ pos 4) ≡ record { mantissa = m; exponent = e }
 unfolding rounded
 round-exact m e l h = rw (five-exact m l h, power-exact m e l h, ne-eqb m 100000 (λ q. omega arith))
-
-abs-signed : (z : ℤ) (m : ℕ) → natAbs (signed z m) ≡ m
-abs-signed (pos n) m = refl
-abs-signed (negsuc n) m = abs-neg (pos m)
-
-module _ (v : Value) (r : Ratio) (h : isFive v && isUsable r ≡ true) where
-  -- the product of a value and a ratio is one that rounds
-  pub scaled-range : (1 ≤ natAbs (v .mantissa) * r .over) × (natAbs (v .mantissa) * r .over < 2 ^ 64) × (1 ≤ r .under) × (r .under ≤ 1000000000000)
-  scaled-range =
-      let m = natAbs (v .mantissa) in
-      let both = and-true (isFive v) (isUsable r) h in
-      let digits = ranged 10000 99999 m (and-true (fiveDigits m) (between (negsuc 98) (pos 99) (v .exponent)) (both .0) .0) in
-      let parts = and-true (leb 1 (r .over) && leb (r .over) 1000000000000) (leb 1 (r .under) && leb (r .under) 1000000000000) (both .1) in
-      let over = ranged 1 1000000000000 (r .over) (parts .0) in
-      let under = ranged 1 1000000000000 (r .under) (parts .1) in
-      omega (arith, mul-le-mul (digits .0) (over .0), mul-le-mul (digits .1) (over .1))
-
-  pub exponent-range : natAbs (v .exponent) ≤ 99
-  exponent-range =
-      between-near 98 (v .exponent) (and-true (fiveDigits (natAbs (v .mantissa))) (between (negsuc 98) (pos 99) (v .exponent)) (and-true (isFive v) (isUsable r) h .0) .1)
-
-  pub product-five : (10000 ≤ product v r .mantissa) × (product v r .mantissa ≤ 99999)
-  product-five = let b = scaled-range in rounded-five _ _ (b .0) (b .1) (b .2) (b .3) (v .exponent -ℤ pos 4)
-
-  pub scaled-is : scaledBy v r ≡ record { mantissa = signed (v .mantissa) (product v r .mantissa); exponent = product v r .exponent }
-  unfolding scaledBy
-  scaled-is = rw h
-
-  -- a value times a ratio is the five-digit number nearest to the product of their magnitudes, a tie going away from zero
-  pub scaled-nearest : Nearest (natAbs (v .mantissa) * r .over) (r .under) (v .exponent -ℤ pos 4) (natAbs (scaledBy v r .mantissa)) (scaledBy v r .exponent)
-  scaled-nearest = let b = scaled-range in rw (scaled-is, abs-signed) (rounded-nearest _ _ (b .0) (b .1) (b .2) (b .3) (v .exponent -ℤ pos 4))
-
-  pub scaled-five : (10000 ≤ natAbs (scaledBy v r .mantissa)) × (natAbs (scaledBy v r .mantissa) ≤ 99999)
-  scaled-five = rw (scaled-is, abs-signed) product-five
-
-  -- its sign is kept
-  pub scaled-sign : scaledBy v r .mantissa ≡ signed (v .mantissa) (natAbs (scaledBy v r .mantissa))
-  scaled-sign = rw (scaled-is, abs-signed)
-
--- what is not scaled stays as it is
-pub scaled-not : (v : Value) (r : Ratio) → isFive v && isUsable r ≡ false → v ≡ scaledBy v r
-unfolding scaledBy
-scaled-not v r h = rw h

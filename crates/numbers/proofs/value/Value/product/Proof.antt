@@ -6,7 +6,7 @@ use mir.Syntax.{w32}
 use mir.Val.{SFits}
 use mir.Facts.{toZ-ofZ}
 use Rattle.numbers.specs.Rounding.{rounded}
-use Rattle.numbers.proofs.Nearest.{scaled-range, exponent-range}
+use Rattle.numbers.proofs.Scaling.{scaled-range, exponent-range}
 use Rattle.numbers.proofs.Signed.{small, abs-minus}
 use borrow.Author.Needs.{needs}
 use native.Mathlib.Omega.{arith}

@@ -6,7 +6,7 @@ use mir.Val.{SFits}
 use mir.Facts.{toZ-ofZ}
 use Rattle.numbers.specs.Numbers.{isFive}
 use Rattle.numbers.specs.Rounding.{isUsable}
-use Rattle.numbers.proofs.Nearest.{product-five, scaled-is, scaled-not}
+use Rattle.numbers.proofs.Scaling.{product-five, scaled-is, scaled-not}
 use borrow.Author.Needs.{needs}
 use native.Mathlib.Omega.{arith}
 use Rattle.numbers.proofs.value.Value.scaled.Statement.{statement}

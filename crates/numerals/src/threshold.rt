@@ -144,19 +144,13 @@ fn digits_from(s: &[u8], a: usize) -> ThresholdNumeral
     judge(s, a, p, p, p)
 }
 
-// The whole of s as a threshold.
-fn threshold_in(s: &[u8]) -> ThresholdNumeral
-    ensures { λ r. ⌜ r ≡ thresholdOf (now (s .entry)) ⌝ }
-{
-    if is_at(s, 0, b'+') {
-        return digits_from(s, 1);
-    }
-    digits_from(s, 0)
-}
-
 // The threshold in s from start up to end.
 pub fn read_threshold(s: &[u8], start: usize, end: usize) -> ThresholdNumeral
     ensures { λ r. ⌜ r ≡ thresholdOf (part start end (now (s .entry))) ⌝ }
 {
-    threshold_in(part(s, start, end))
+    let t = part(s, start, end);
+    if is_at(t, 0, b'+') {
+        return digits_from(t, 1);
+    }
+    digits_from(t, 0)
 }

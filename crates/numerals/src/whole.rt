@@ -69,21 +69,15 @@ fn behind(n: u32, s: &[u8], p: usize) -> Numeral
     Numeral::Malformed
 }
 
-// The whole of s as a factor.
-fn factor_in(s: &[u8]) -> Numeral
-    ensures { λ r. ⌜ r ≡ factorOf (now (s .entry)) ⌝ }
-{
-    let p = run(s, 0);
-    let few = (1 <= p) & (p <= 2);
-    if few {
-        return behind(value(s, 0, p) as u32, s, p);
-    }
-    Numeral::Malformed
-}
-
 // The factor in s from start up to end.
 pub fn read_factor(s: &[u8], start: usize, end: usize) -> Numeral
     ensures { λ r. ⌜ r ≡ factorOf (part start end (now (s .entry))) ⌝ }
 {
-    factor_in(part(s, start, end))
+    let t = part(s, start, end);
+    let p = run(t, 0);
+    let few = (1 <= p) & (p <= 2);
+    if few {
+        return behind(value(t, 0, p) as u32, t, p);
+    }
+    Numeral::Malformed
 }

@@ -164,7 +164,8 @@ module _ (n d : ℕ) (some : 1 ≤ n) (most : n < 2 ^ 64) (part : 1 ≤ d) (part
   unfolding power
   power-far x =
       let y = x +ℤ pos (4 + down n d) in
-      let back : x ≡ power n d x +ℤ pos (up n d) -ℤ pos (4 + down n d) = sym (ap (λ z. z -ℤ pos (4 + down n d)) (-ℤ-+ℤ-cancel y (pos (up n d))) ∙ +ℤ-negℤ-cancel x (pos (4 + down n d))) in
+      let back : x ≡ power n d x +ℤ pos (up n d) -ℤ pos (4 + down n d) =
+      sym (ap (λ z. z -ℤ pos (4 + down n d)) (-ℤ-+ℤ-cancel y (pos (up n d))) ∙ +ℤ-negℤ-cancel x (pos (4 + down n d))) in
       omega (arith, placed .moved, ap natAbs back, abs-minus (power n d x +ℤ pos (up n d)) (pos (4 + down n d)), abs-add (power n d x) (pos (up n d)))
 
   -- either exit of rounded

@@ -42,8 +42,8 @@ le-from l r p q w c z a b h = le-of-mul-le-mul-right (omega (arith, mul-le-mul-r
 swap-last : (s a b c : ℕ) → s * (a * b) * c ≡ s * (a * c) * b
 swap-last s a b c = omega arith
 
-ten-more : (j : ℕ) → 10 ≤ 10 ^ suc j
-ten-more j = omega (arith, one-le-pow j 10 (omega arith))
+ten-least : (j : ℕ) → 10 ≤ 10 ^ suc j
+ten-least j = omega (arith, one-le-pow j 10 (omega arith))
 
 module _ (n d m : ℕ) (low : 10000 * d ≤ n) (near : (2 * (m * d) ≤ 2 * n + d) × (2 * n < 2 * (m * d) + d)) (digits : 10000 ≤ m) where
   -- beside m, a number in steps no smaller than m's is a whole number of them
@@ -78,7 +78,7 @@ module _ (n d m : ℕ) (low : 10000 * d ≤ n) (near : (2 * (m * d) ≤ 2 * n + 
       ⊎-elim (λ (r : (j : ℕ) × (tens f * tenths e ≡ 10 ^ j * (tens e * tenths f))).
       rw (r .1) (above-coarse (tens e * tenths f) (10 ^ r .0) k (mul-pos (tens-some e) (tenths-some f)) (rw (r .1) at h)))
       (λ (r : (j : ℕ) × (tens e * tenths f ≡ 10 ^ suc j * (tens f * tenths e))).
-      absurd (above-fine (tens f * tenths e) (10 ^ suc (r .0)) k (ten-more (r .0)) q (rw (r .1) at h)))
+      absurd (above-fine (tens f * tenths e) (10 ^ suc (r .0)) k (ten-least (r .0)) q (rw (r .1) at h)))
       (tens-apart e f)
 
   below-any : (e f : ℤ) (k : ℕ) → k ≤ 99999 → k * (tens f * tenths e) < m * (tens e * tenths f)
@@ -87,7 +87,7 @@ module _ (n d m : ℕ) (low : 10000 * d ≤ n) (near : (2 * (m * d) ≤ 2 * n + 
       ⊎-elim (λ (r : (j : ℕ) × (tens f * tenths e ≡ 10 ^ j * (tens e * tenths f))).
       rw (r .1) (below-coarse (tens e * tenths f) (10 ^ r .0) k (rw (r .1) at h)))
       (λ (r : (j : ℕ) × (tens e * tenths f ≡ 10 ^ suc j * (tens f * tenths e))).
-      rw (r .1) (below-fine (tens f * tenths e) (10 ^ suc (r .0)) k (ten-more (r .0)) q))
+      rw (r .1) (below-fine (tens f * tenths e) (10 ^ suc (r .0)) k (ten-least (r .0)) q))
       (tens-apart e f)
 
 module _ (n d : ℕ) (x : ℤ) (m : ℕ) (e : ℤ) (r : ℕ) (g : ℤ) (same : m * (tens e * tenths g) ≡ r * (tens g * tenths e)) where

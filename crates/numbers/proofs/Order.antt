@@ -1,7 +1,7 @@
 -- The order of numbers of five digits: the exponents decide, and where they are equal the digits. A value beside a threshold.
 use Prim.Native.Nat.{ℕ, zero, suc, _*_, _^_, _≤_, _<_}
 use mathlib.Core.Path.{_≡_, refl, sym, ap, _∙_, subst}
-use mathlib.Core.Bool.{Bool, true, false, cond, _&&_}
+use mathlib.Core.Bool.{Bool, true, false, _&&_}
 use mathlib.Core.Logic.{⊎-elim}
 use native.Mathlib.Omega.{arith}
 use native.Mathlib.Nat.{pow-suc, pow-le-pow-right, one-le-pow, zero-mul, mul-pos, mul-le-mul, mul-le-mul-right, mul-lt-mul-of-pos-right, le-antisymm, le-of-lt}
@@ -18,11 +18,6 @@ use Rattle.numbers.proofs.Fractions.{tens-some, tenths-some}
 use Rattle.numbers.specs.Numbers.{isNumber, withinStops, tens, tenths, less, isBelow, isAbove}
 use Rattle.numbers.specs.declared.threshold.Threshold.{Threshold}
 use Rattle.numbers.specs.declared.value.Value.{Value}
-
--- what depends on the sign alone is told by the test for a number below zero
-pub by-sign : {A : Type 0} (f : ℤ → A) (a b : A) → ((n : ℕ) → f (negsuc n) ≡ a) → ((n : ℕ) → f (pos n) ≡ b) → (z : ℤ) → f z ≡ cond (ltZ z (pos 0)) a b
-by-sign f a b h k (pos n) = rw (le-ltb n 0 (omega arith)) (k n)
-by-sign f a b h k (negsuc n) = h n
 
 -- no number is both below and above another
 lt-not-gt : (a b : ℤ) → ltZ a b ≡ true → ltZ b a ≡ false

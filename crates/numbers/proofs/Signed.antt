@@ -4,7 +4,7 @@ use mathlib.Core.Path.{_≡_, refl, subst}
 use mathlib.Core.Bool.{Bool, true, false, cond}
 use mathlib.Core.Logic.{⊎-elim}
 use native.Mathlib.Omega.{arith}
-use borrow.Author.Tests.{ltb-true, leb-true, leb-false, le-leb}
+use borrow.Author.Tests.{ltb-true, leb-true, leb-false, le-leb, le-ltb}
 use lib.Dec.{T, leb, ltb}
 use lib.IntN.{ℤ, pos, negsuc, negℤ, natAbs, subℕ, _+ℤ_, _-ℤ_, +ℤ-idl}
 use lib.Signed.{mag, ltZ, nonNeg, natAbs-le}
@@ -69,3 +69,8 @@ between-far k (pos n) h = leb-false n (suc k) h
 between-far k (negsuc n) h =
     ⊎-elim (λ (l : n < suc k). absurd (subst T (rw (le-leb n k (omega arith)) at h) tt))
     (λ (g : suc k ≤ n). omega arith) (below n (suc k))
+
+-- what depends on the sign alone is told by the test for a number below zero
+pub by-sign : {A : Type 0} (f : ℤ → A) (a b : A) → ((n : ℕ) → f (negsuc n) ≡ a) → ((n : ℕ) → f (pos n) ≡ b) → (z : ℤ) → f z ≡ cond (ltZ z (pos 0)) a b
+by-sign f a b h k (pos n) = rw (le-ltb n 0 (omega arith)) (k n)
+by-sign f a b h k (negsuc n) = h n

@@ -1,4 +1,4 @@
--- Thresholds and signed values as numbers: d.dddd times a power of ten.
+-- Thresholds and signed values as numbers: d.dddd times a power of ten (01, "Settings"; "Readings, switching, streaming").
 use Prim.Native.Nat.{ℕ, suc, _*_, _^_}
 use mathlib.Core.Bool.{Bool, _&&_, _||_}
 use lib.Dec.{leb, eqb}
@@ -11,6 +11,7 @@ use Rattle.numbers.specs.declared.value.Value.{Value}
 abbrev pub fiveDigits : ℕ → Bool
 fiveDigits m = leb 10000 m && leb m 99999
 
+-- e is from low to high
 abbrev pub between : ℤ → ℤ → ℤ → Bool
 between low high e = leZ low e && leZ e high
 
@@ -26,6 +27,7 @@ isFive v = fiveDigits (natAbs (v .mantissa)) && between (negsuc 98) (pos 99) (v 
 abbrev pub isZero : Value → Bool
 isZero v = eqb (natAbs (v .mantissa)) 0 && eqb (natAbs (v .exponent)) 0
 
+-- "a signed mantissa of 0 or magnitude 10000 to 99999"
 abbrev pub isNumber : Value → Bool
 isNumber v = isZero v || isFive v
 
@@ -46,6 +48,7 @@ less m e n f = ltZ (m *ℤ pos (tens e * tenths f)) (n *ℤ pos (tens f * tenths
 unfoldable pub isBelow : Value → Threshold → Bool
 isBelow v t = isNumber v && (withinStops t && less (v .mantissa) (v .exponent) (pos (t .mantissa)) (t .exponent))
 
+-- and so for more than the threshold
 unfoldable pub isAbove : Value → Threshold → Bool
 isAbove v t = isNumber v && (withinStops t && less (pos (t .mantissa)) (t .exponent) (v .mantissa) (v .exponent))
 

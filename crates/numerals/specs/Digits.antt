@@ -1,4 +1,4 @@
--- Runs of decimal digits in a list of bytes, and the number that they make.
+-- Runs of decimal digits in a list of bytes, and the number that they make: what 01, "Settings", calls digits.
 use Prim.Native.Nat.{ℕ, _+_, _-_, _*_}
 use mathlib.Core.List.{List, [], _∷_}
 use mathlib.Core.Bool.{Bool, false, cond, _&&_}
@@ -9,6 +9,7 @@ use lib.Dec.{leb, eqb}
 abbrev pub part : ℕ → ℕ → List ℕ → List ℕ
 part start end s = take (end - start) (drop start s)
 
+-- the bytes of 0 to 9
 abbrev pub isDigit : ℕ → Bool
 isDigit b = leb 48 b && leb b 57
 

@@ -77,5 +77,6 @@ fractionPart s = fraction (rest (afterPlus s))
 abbrev pub powerPart : List ℕ → List ℕ
 powerPart s = afterFraction (rest (afterPlus s))
 
+-- the whole sentence
 unfoldable pub thresholdOf : List ℕ → ThresholdNumeral
 thresholdOf s = judged (wholePart s) (fractionPart s) (powerPart s)

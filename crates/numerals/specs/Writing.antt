@@ -16,6 +16,7 @@ signByte (negsuc n) = code "-"
 unfoldable pub scientific : ℕ → ℤ → List ℕ
 scientific m e = dig 1 (m / 10000) ++ (code "." ∷ (dig 4 m ++ (code "E" ∷ signByte e ∷ dig 2 (natAbs e))))
 
+-- "thresholds as d.ddddE, sign, two digits"
 abbrev pub thresholdText : Threshold → List ℕ
 thresholdText t = scientific (t .mantissa) (t .exponent)
 

@@ -14,6 +14,7 @@ abbrev pub ascii : String → List ℕ
 ascii []ˢ = []
 ascii (c ∷ˢ s) = code c ∷ ascii s
 
+-- nothing said yet, every place zero
 abbrev pub empty : Text
 empty = record { bytes = replicate 64 0; len = 0 }
 
@@ -21,6 +22,7 @@ empty = record { bytes = replicate 64 0; len = 0 }
 unfoldable pub put : Text → ℕ → Text
 put t b = cond (ltb (t .len) 64) (record { bytes = set (t .bytes) (t .len) b; len = t .len + 1 }) t
 
+-- byte after byte
 abbrev pub puts : Text → List ℕ → Text
 puts t [] = t
 puts t (b ∷ bs) = puts (put t b) bs

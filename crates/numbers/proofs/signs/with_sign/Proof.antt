@@ -10,8 +10,7 @@ use mir.Syntax.{w32}
 use mir.Val.{SFits}
 use mir.Facts.{toZ-ofZ, toZ-pos}
 use Rattle.numbers.specs.Numbers.{signed}
-use Rattle.numbers.proofs.Signed.{small, zero-minus, abs-neg}
-use Rattle.numbers.proofs.Order.{by-sign}
+use Rattle.numbers.proofs.Signed.{by-sign, small, zero-minus, abs-neg}
 use Rattle.numbers.proofs.signs.with_sign.Statement.{statement}
 use Rattle.numbers.proofs.signs.with_sign.Tie as tie
 

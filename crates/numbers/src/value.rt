@@ -3,7 +3,7 @@ ghost use mathlib.Core.Path.{_≡_};
 ghost use mathlib.Core.Bool.{true, _&&_};
 ghost use Prim.Native.Nat.{_≤_, _<_, _*_};
 ghost use lib.Dec.{ltb};
-ghost use Rattle.numbers.specs.Numbers.{isFive, isNumber, tens, tenths, isBelow, isAbove};
+ghost use Rattle.numbers.specs.Numbers.{isFive, isZero, isNumber, tens, tenths, isBelow, isAbove};
 ghost use Rattle.numbers.specs.Rounding.{isUsable, product, scaledBy};
 use crate::rounding::rounded;
 use crate::signs::magnitude;
@@ -65,14 +65,19 @@ impl Value {
         digits & two
     }
 
+    pub fn is_zero(self) -> bool
+        ensures { λ r. ⌜ r ≡ isZero self ⌝ }
+    {
+        let m = magnitude(self.mantissa);
+        let e = magnitude(self.exponent);
+        (m == 0) & (e == 0)
+    }
+
     // Whether it is a number: zero, or five digits.
     pub fn is_number(self) -> bool
         ensures { λ r. ⌜ r ≡ isNumber self ⌝ }
     {
-        let m = magnitude(self.mantissa);
-        let e = magnitude(self.exponent);
-        let zero = (m == 0) & (e == 0);
-        zero | self.is_five()
+        self.is_zero() | self.is_five()
     }
 
     pub fn is_below(self, t: Threshold) -> bool

@@ -38,13 +38,7 @@ impl Text {
         requires { ⌜ from ≤ 10 ⌝ }
         ensures { λ r. ⌜ r ≡ puts self (drop from d) ⌝ }
     {
-        let mut t = self;
-        let mut i = from;
-        while i < 10 {
-            t = t.put(d[i]);
-            i += 1;
-        }
-        t
+        self.append(&d[from..])
     }
 
     // A whole number without leading zeros.

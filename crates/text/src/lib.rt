@@ -3,7 +3,7 @@ ghost use mathlib.Core.Path.{_≡_};
 ghost use Prim.Native.Nat.{_+_, _≤_};
 ghost use lib.ListN.{length};
 ghost use lib.Seq.{paste};
-ghost use Rattle.text.specs.Text.{empty, put, laid, after};
+ghost use Rattle.text.specs.Text.{empty, put, puts, laid, after};
 
 mod digits;
 
@@ -38,6 +38,19 @@ impl Text {
         } else {
             self
         }
+    }
+
+    // The text with the bytes of s put behind it.
+    pub fn append(self, s: &[u8]) -> Text
+        ensures { λ r. ⌜ r ≡ puts self (now (s .entry)) ⌝ }
+    {
+        let mut t = self;
+        let mut i: usize = 0;
+        while i < s.len() {
+            t = t.put(s[i]);
+            i += 1;
+        }
+        t
     }
 
     // The text laid into out from `at` on, where it fits whole; the place after it.

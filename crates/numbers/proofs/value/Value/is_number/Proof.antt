@@ -1,28 +1,18 @@
--- Both magnitudes are `natAbs` (`magnitude`), and each test is the definition's.
+-- Either test is the definition's.
+use mathlib.Core.Path.{ap₂}
+use mathlib.Core.Bool.{_||_}
 use borrow.Author.Needs.{needs}
-use mir.Syntax.{w32}
-use mir.Val.{SFits}
-use mir.Facts.{toZ-ofZ}
 use Rattle.numbers.proofs.value.Value.is_number.Statement.{statement}
 use Rattle.numbers.proofs.value.Value.is_number.Tie as tie
 
-magnitude-requires : tie.Need-magnitude-requires
-magnitude-requires c κs = search needs
-
-magnitude-requires-2 : tie.Need-magnitude-requires-2
-magnitude-requires-2 c κs = search needs
+is-zero-requires : tie.Need-is-zero-requires
+is-zero-requires c κs = search needs
 
 is-five-requires : tie.Need-is-five-requires
 is-five-requires c κs = search needs
 
 returns : tie.Need-returns
-returns c =
-    let m = c .before .before .before in
-    let v = m .before .before .args .self in
-    let f : SFits w32 (v .mantissa) = search needs in
-    let g : SFits w32 (v .exponent) = search needs in
-    rw (m .magnitude .ensures, c .before .magnitude2 .ensures, c .is-five .ensures, toZ-ofZ f, toZ-ofZ g)
+returns c = ap₂ _||_ (c .before .is-zero .ensures) (c .is-five .ensures)
 
 pub is-number-spec : {M : Type 1} → statement M
-is-number-spec =
-    tie.close (tie.spec magnitude-requires magnitude-requires-2 is-five-requires returns)
+is-number-spec = tie.close (tie.spec is-zero-requires is-five-requires returns)

@@ -1,0 +1,5 @@
+pub mod Readings
+pub mod Units
+pub mod Shown
+pub mod Kinds
+pub mod Frame

@@ -1,0 +1,31 @@
+-- A reading of a gauge and its limits (01, "Readings, switching, streaming").
+use mathlib.Core.Bool.{Bool, Bool·beq, not, _&&_, _||_}
+use lib.Dec.{leb, eqb}
+use lib.IntN.{pos, negsuc}
+use Rattle.numbers.specs.Numbers.{between, isZero, isNumber}
+use Rattle.numbers.specs.declared.value.Value.{Value}
+use Rattle.gauges.specs.declared.reading.Reading.{Reading}
+
+-- "gauge kind 0 to 7 (...), status 0 to 6"
+abbrev pub isKnown : Reading → Bool
+isKnown r = leb (r .kind) 7 && leb (r .status) 6
+
+-- "a signed mantissa of 0 or magnitude 10000 to 99999 and an exponent -20 to 20"; "Zero has exponent 0."
+abbrev pub inRange : Value → Bool
+inRange v = isNumber v && between (negsuc 19) (pos 20) (v .exponent)
+
+-- "Status is 5 exactly when kind is 6, and the value is then zero"
+abbrev pub sensorAgrees : Reading → Bool
+sensorAgrees r = Bool·beq (eqb (r .status) 5) (eqb (r .kind) 6) && (not (eqb (r .kind) 6) || isZero (r .value))
+
+-- "status is 6 exactly when kind is 7"
+abbrev pub identifierAgrees : Reading → Bool
+identifierAgrees r = Bool·beq (eqb (r .status) 6) (eqb (r .kind) 7)
+
+-- all limits of a reading
+unfoldable pub withinLimits : Reading → Bool
+withinLimits r = isKnown r && inRange (r .value) && sensorAgrees r && identifierAgrees r
+
+-- "A channel without a reading is status 5, kind 6."
+abbrev pub noReading : Reading
+noReading = record { kind = 6; status = 5; value = record { mantissa = pos 0; exponent = pos 0 } }

@@ -1,0 +1,63 @@
+// What is shown of a reading in the unit chosen: its text, and the switching by it.
+ghost use mathlib.Core.Path.{_≡_};
+ghost use Rattle.text.specs.Text.{puts};
+ghost use Rattle.gauges.specs.Shown.{inHpa, shownOf, shownText, switched};
+use crate::reading::Reading;
+use crate::units::from_hpa;
+use numbers::threshold::Threshold;
+use numbers::value::Value;
+use numerals::writing::write_value;
+use text::Text;
+
+pub struct Shown {
+    pub status: u8,
+    pub value: Value,
+}
+
+impl Reading {
+    // The value to show, still in hPa: a channel without a sensor has one too.
+    fn in_hpa(self) -> Value
+        ensures { λ r. ⌜ r ≡ inHpa self ⌝ }
+    {
+        if self.status == Reading::STATUS_NO_SENSOR {
+            return Value {
+                mantissa: 20000,
+                exponent: -2,
+            };
+        }
+        self.value
+    }
+
+    // The reading as replies and switching have it.
+    pub fn shown(self, unit: u8) -> Shown
+        ensures { λ r. ⌜ r ≡ shownOf self unit ⌝ }
+    {
+        Shown {
+            status: self.status,
+            value: self.in_hpa().scaled(from_hpa(unit)),
+        }
+    }
+}
+
+impl Shown {
+    // Whether a switching function of the channel is on after this; `was` is whether it was on before.
+    pub fn switches(self, lower: Threshold, upper: Threshold, was: bool) -> bool
+        ensures { λ r. ⌜ r ≡ switched self lower upper was ⌝ }
+    {
+        if self.status != Reading::STATUS_OKAY {
+            return false;
+        }
+        let v = self.value;
+        if v.is_below(lower) {
+            return true;
+        }
+        was & !v.is_above(upper)
+    }
+}
+
+// The text with a shown reading put behind it.
+pub fn write_shown(t: Text, s: Shown) -> Text
+    ensures { λ r. ⌜ r ≡ puts t (shownText s) ⌝ }
+{
+    write_value(t.whole(s.status as u32).put(b','), s.value)
+}

@@ -11,7 +11,7 @@ use lib.Signed.{mag, ltZ, nonNeg, natAbs-le}
 use mir.Syntax.{w32, w64}
 use mir.Val.{SFits}
 use Rattle.numbers.specs.Numbers.{between}
-use Rattle.numbers.proofs.Cases.{below, and-true}
+use Rattle.numbers.proofs.Cases.{below, true-or-false, and-true}
 
 mag-le : (z : ℤ) → mag z ≤ natAbs z
 mag-le (pos n) = omega arith
@@ -69,6 +69,12 @@ between-far k (pos n) h = leb-false n (suc k) h
 between-far k (negsuc n) h =
     ⊎-elim (λ (l : n < suc k). absurd (subst T (rw (le-leb n k (omega arith)) at h) tt))
     (λ (g : suc k ≤ n). omega arith) (below n (suc k))
+
+pub near-between : (k : ℕ) (e : ℤ) → natAbs e ≤ suc k → between (negsuc k) (pos (suc k)) e ≡ true
+near-between k e h =
+    ⊎-elim (λ (t : between (negsuc k) (pos (suc k)) e ≡ true). t)
+    (λ (f : between (negsuc k) (pos (suc k)) e ≡ false). absurd (omega (arith, between-far k e f)))
+    (true-or-false (between (negsuc k) (pos (suc k)) e))
 
 -- what depends on the sign alone is told by the test for a number below zero
 pub by-sign : {A : Type 0} (f : ℤ → A) (a b : A) → ((n : ℕ) → f (negsuc n) ≡ a) → ((n : ℕ) → f (pos n) ≡ b) → (z : ℤ) → f z ≡ cond (ltZ z (pos 0)) a b

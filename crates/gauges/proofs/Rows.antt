@@ -1,0 +1,52 @@
+-- The starred unit rows of 01, "Lines on either side", and the rest of the table of units, as one statement over a list.
+use Prim.Native.Nat.{ℕ}
+use Prim.Native.String.{String}
+use mathlib.Core.Path.{_≡_, refl}
+use mathlib.Core.List.{List, [], _∷_, _++_, map}
+use lib.IntN.{ℤ, pos, negsuc}
+use Rattle.text.specs.Text.{ascii}
+use Rattle.text.specs.Digits.{bare}
+use Rattle.numbers.specs.Rounding.{climbWithin, five, power, rounded, scaledBy}
+use Rattle.numerals.specs.Writing.{scientific}
+use Rattle.gauges.specs.Readings.{noReading}
+use Rattle.gauges.specs.Shown.{shownOf, shownText}
+use Rattle.gauges.specs.declared.reading.Reading.{Reading}
+
+pub record Row : Type 0 where
+  pub reading : Reading
+  pub unit : ℕ
+  pub sent : String
+
+-- a good reading of a linear gauge
+abbrev pub linear : ℤ → ℤ → ℕ → String → Row
+linear m e u t = record { reading = record { kind = 5; status = 0; value = record { mantissa = m; exponent = e } }; unit = u; sent = t }
+
+abbrev pub none : ℕ → String → Row
+none u t = record { reading = noReading; unit = u; sent = t }
+
+abbrev pub rows : List Row
+rows =
+    linear (pos 10000) (pos 3) 1 "0,+7.5006E+02"
+    ∷ linear (pos 13332) (pos 0) 1 "0,+9.9998E-01"
+    ∷ linear (pos 13333) (pos 0) 1 "0,+1.0001E+00"
+    ∷ none 1 "5,+1.5001E-02"
+    ∷ []
+
+-- every unit, both signs, zero, and both ends of a reading's range
+abbrev pub others : List Row
+others =
+    none 0 "5,+2.0000E-02"
+    ∷ none 2 "5,+2.0000E+00"
+    ∷ none 3 "5,+1.5001E+01"
+    ∷ none 4 "5,+2.0000E-02"
+    ∷ linear (pos 0) (pos 0) 1 "0,+0.0000E+00"
+    ∷ linear (negsuc 13332) (pos 0) 1 "0,-1.0001E+00"
+    ∷ linear (pos 10133) (pos 3) 2 "0,+1.0133E+05"
+    ∷ linear (pos 10133) (pos 3) 3 "0,+7.6004E+05"
+    ∷ linear (pos 99999) (pos 20) 3 "0,+7.5005E+23"
+    ∷ linear (pos 10000) (negsuc 19) 1 "0,+7.5006E-21"
+    ∷ []
+
+pub rows-hold : map (λ (r : Row). shownText (shownOf (r .reading) (r .unit))) (rows ++ others) ≡ map (λ (r : Row). ascii (r .sent)) (rows ++ others)
+unfolding bare scientific climbWithin five power rounded scaledBy
+rows-hold = refl

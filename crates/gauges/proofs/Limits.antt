@@ -9,7 +9,7 @@ use lib.IntN.{ℤ, pos, negsuc, natAbs}
 use Rattle.numbers.specs.Numbers.{isZero}
 use Rattle.numbers.specs.declared.value.Value.{Value}
 use Rattle.numbers.proofs.Cases.{and-true}
-use Rattle.gauges.specs.Readings.{isKnown, inRange, sensorAgrees, identifierAgrees, withinLimits, noReading}
+use Rattle.gauges.specs.Readings.{isKnown, inRange, sensorAgrees, identifierAgrees, withinLimits, zeroValue, noReading}
 use Rattle.gauges.specs.declared.reading.Reading.{Reading}
 
 pub none-within : withinLimits noReading ≡ true
@@ -27,10 +27,12 @@ abs-zero (pos n) e = ap pos e
 abs-zero (negsuc n) e = absurd (let h : suc n ≡ 0 = e in omega arith)
 
 -- zero is zero, in both parts
-pub zero-is : (v : Value) → isZero v ≡ true → v ≡ record { mantissa = pos 0; exponent = pos 0 }
+pub zero-is : (v : Value) → isZero v ≡ true → v ≡ zeroValue
 zero-is v h =
     let b = and-true (eqb (natAbs (v .mantissa)) 0) (eqb (natAbs (v .exponent)) 0) h in
-    ap₂ (λ (m e : ℤ). record { mantissa = m; exponent = e }) (abs-zero (v .mantissa) (eqb-true _ _ (b .0))) (abs-zero (v .exponent) (eqb-true _ _ (b .1)))
+    ap₂ (λ (m e : ℤ). record { mantissa = m; exponent = e })
+    (abs-zero (v .mantissa) (eqb-true _ _ (b .0)))
+    (abs-zero (v .exponent) (eqb-true _ _ (b .1)))
 
 module _ (r : Reading) (h : withinLimits r ≡ true) where
   tests : (isKnown r && inRange (r .value) && sensorAgrees r ≡ true) × (identifierAgrees r ≡ true)

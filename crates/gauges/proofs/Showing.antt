@@ -1,12 +1,12 @@
 -- A shown value is the nearest to the exact one in every unit, is a number that two exponent digits write, and switches on good data alone.
 use Prim.Native.Nat.{ℕ, _+_, _*_, _≤_, _<_}
 use mathlib.Core.Path.{_≡_, refl, sym, ap, ap₂, _∙_}
-use mathlib.Core.Bool.{Bool, true, false, cond, false≢true, _&&_, _||_}
+use mathlib.Core.Bool.{Bool, true, false, cond, false≢true, _&&_}
 use mathlib.Core.Logic.{_⊎_, inl, inr, ⊎-elim}
 use native.Mathlib.Omega.{arith}
 use borrow.Author.Tests.{le-leb, eqb-true}
-use lib.Dec.{eqb, leb}
-use lib.IntN.{ℤ, pos, negsuc, natAbs, _-ℤ_}
+use lib.Dec.{eqb}
+use lib.IntN.{pos, negsuc, natAbs, _-ℤ_}
 use lib.ListN.{length, length-append}
 use Rattle.text.specs.Text.{ascii}
 use Rattle.text.specs.Digits.{wholeText, bare}
@@ -15,37 +15,37 @@ use Rattle.numbers.specs.Numbers.{between, isZero, isFive, isNumber, isBelow, i
 use Rattle.numbers.specs.Rounding.{isUsable, scaledBy, Nearest}
 use Rattle.numbers.specs.declared.threshold.Threshold.{Threshold}
 use Rattle.numbers.specs.declared.value.Value.{Value}
-use Rattle.numbers.proofs.Cases.{and-true, or-true, cond-cases, ranged}
+use Rattle.numbers.proofs.Cases.{and-true, or-true, or-right, cond-cases}
 use Rattle.numbers.proofs.Signed.{between-near, near-between}
 use Rattle.numbers.proofs.Scaling.{scaled-nearest, scaled-five, scaled-near, scaled-sign, scaled-not}
 use Rattle.numerals.specs.Writing.{scientific, valueText}
-use Rattle.gauges.specs.Readings.{inRange, withinLimits}
+use Rattle.gauges.specs.Readings.{inRange, withinLimits, zeroValue}
 use Rattle.gauges.specs.Units.{fromHpa}
-use Rattle.gauges.specs.Shown.{inHpa, shownOf, shownText, switched}
+use Rattle.gauges.specs.Shown.{absentShows, inHpa, shownOf, shownText, switched}
 use Rattle.gauges.specs.declared.reading.Reading.{Reading}
 use Rattle.gauges.specs.declared.shown.Shown.{Shown}
 use Rattle.gauges.proofs.Factors.{usable}
 use Rattle.gauges.proofs.Limits.{zero-is, in-range}
-
-or-right : (a b : Bool) → b ≡ true → a || b ≡ true
-or-right true b e = refl
-or-right false b e = e
 
 module _ (r : Reading) (unit : ℕ) (five : isFive (inHpa r) ≡ true) where
   scalable : isFive (inHpa r) && isUsable (fromHpa unit) ≡ true
   scalable = ap₂ _&&_ five (usable unit)
 
   -- in any unit the shown value is the five-digit number nearest to the exact one, a tie going upwards
-  pub shown-nearest : Nearest (natAbs (inHpa r .mantissa) * fromHpa unit .over) (fromHpa unit .under) (inHpa r .exponent -ℤ pos 4) (natAbs (shownOf r unit .value .mantissa)) (shownOf r unit .value .exponent)
+  pub shown-nearest : Nearest
+      (natAbs (inHpa r .mantissa) * fromHpa unit .over) (fromHpa unit .under) (inHpa r .exponent -ℤ pos 4)
+      (natAbs (shownOf r unit .value .mantissa)) (shownOf r unit .value .exponent)
   shown-nearest = scaled-nearest (inHpa r) (fromHpa unit) scalable
 
-  -- "the sign kept"
+  -- the sign is kept
   pub shown-sign : shownOf r unit .value .mantissa ≡ signed (inHpa r .mantissa) (natAbs (shownOf r unit .value .mantissa))
   shown-sign = scaled-sign (inHpa r) (fromHpa unit) scalable
 
 module _ (r : Reading) (unit : ℕ) (zero : isZero (inHpa r) ≡ true) where
-  shown-zero : shownOf r unit .value ≡ record { mantissa = pos 0; exponent = pos 0 }
-  shown-zero = ap (λ (v : Value). scaledBy v (fromHpa unit)) (zero-is (inHpa r) zero) ∙ sym (scaled-not (record { mantissa = pos 0; exponent = pos 0 }) (fromHpa unit) refl)
+  shown-zero : shownOf r unit .value ≡ zeroValue
+  shown-zero =
+      ap (λ (v : Value). scaledBy v (fromHpa unit)) (zero-is (inHpa r) zero)
+      ∙ sym (scaled-not zeroValue (fromHpa unit) refl)
 
   -- "Zero stays +0.0000E+00."
   pub zero-stays : valueText (shownOf r unit .value) ≡ ascii "+0.0000E+00"
@@ -54,19 +54,23 @@ module _ (r : Reading) (unit : ℕ) (zero : isZero (inHpa r) ≡ true) where
 
 module _ (r : Reading) (unit : ℕ) (h : withinLimits r ≡ true) where
   to-show : inRange (inHpa r) ≡ true
-  to-show = cond-cases (λ (v : Value). inRange v ≡ true) (eqb (r .status) 5) (record { mantissa = pos 20000; exponent = negsuc 1 }) (r .value) (λ e. refl) (λ e. in-range r h)
+  to-show =
+      cond-cases (λ (v : Value). inRange v ≡ true) (eqb (r .status) 5) absentShows (r .value)
+      (λ e. refl) (λ e. in-range r h)
 
-  near : natAbs (inHpa r .exponent) ≤ 20
-  near = between-near 19 (inHpa r .exponent) (and-true (isNumber (inHpa r)) (between (negsuc 19) (pos 20) (inHpa r .exponent)) to-show .1)
+  limits : (isNumber (inHpa r) ≡ true) × (between (negsuc 19) (pos 20) (inHpa r .exponent) ≡ true)
+  limits = and-true (isNumber (inHpa r)) (between (negsuc 19) (pos 20) (inHpa r .exponent)) to-show
 
   zero-or-five : (isZero (inHpa r) ≡ true) ⊎ (isFive (inHpa r) ≡ true)
-  zero-or-five = or-true (isZero (inHpa r)) (isFive (inHpa r)) (and-true (isNumber (inHpa r)) (between (negsuc 19) (pos 20) (inHpa r .exponent)) to-show .0)
+  zero-or-five = or-true (isZero (inHpa r)) (isFive (inHpa r)) (limits .0)
 
   -- its exponent has two digits
   pub shown-exponent : natAbs (shownOf r unit .value .exponent) ≤ 45
   shown-exponent =
       ⊎-elim (λ (z : isZero (inHpa r) ≡ true). rw (shown-zero r unit z) (omega arith))
-      (λ (f : isFive (inHpa r) ≡ true). omega (arith, near, scaled-near (inHpa r) (fromHpa unit) (scalable r unit f)))
+      (λ (f : isFive (inHpa r) ≡ true).
+      let moved = scaled-near (inHpa r) (fromHpa unit) (scalable r unit f) in
+      omega (arith, between-near 19 (inHpa r .exponent) (limits .1), moved))
       zero-or-five
 
   -- so it is a number, which thresholds are compared with
@@ -74,24 +78,29 @@ module _ (r : Reading) (unit : ℕ) (h : withinLimits r ≡ true) where
   shown-number =
       ⊎-elim (λ (z : isZero (inHpa r) ≡ true). rw (shown-zero r unit z))
       (λ (f : isFive (inHpa r) ≡ true).
-        let d = scaled-five (inHpa r) (fromHpa unit) (scalable r unit f) in
-        or-right (isZero (shownOf r unit .value)) (isFive (shownOf r unit .value)) (ap₂ _&&_ (ap₂ _&&_ (le-leb _ _ (d .0)) (le-leb _ _ (d .1))) (near-between 98 (shownOf r unit .value .exponent) (omega (arith, shown-exponent)))))
+      let d = scaled-five (inHpa r) (fromHpa unit) (scalable r unit f) in
+      let digits = ap₂ _&&_ (le-leb _ _ (d .0)) (le-leb _ _ (d .1)) in
+      let two = near-between 98 (shownOf r unit .value .exponent) (omega (arith, shown-exponent)) in
+      or-right (isZero (shownOf r unit .value)) (isFive (shownOf r unit .value)) (ap₂ _&&_ digits two))
       zero-or-five
 
 -- a status of one digit makes thirteen bytes
 pub shown-length : (s : Shown) → s .status < 10 → length (shownText s) ≡ 13
 unfolding bare scientific
 shown-length s h =
-    length-append (wholeText (s .status)) _ ∙ ap (λ (n : ℕ). n + 12) (eqb-true _ _ (everywhere (λ (n : ℕ). eqb (length (wholeText n)) 1) 10 refl (s .status) h))
+    let one = eqb-true _ _ (everywhere (λ (n : ℕ). eqb (length (wholeText n)) 1) 10 refl (s .status) h) in
+    length-append (wholeText (s .status)) _ ∙ ap (λ (n : ℕ). n + 12) one
 
-on-tests : (good low high was : Bool) → cond good (cond low true (cond high false was)) false ≡ true → (good ≡ true) × ((low ≡ true) ⊎ (was ≡ true))
+on-tests : (good low high was : Bool) → cond good (cond low true (cond high false was)) false ≡ true
+    → (good ≡ true) × ((low ≡ true) ⊎ (was ≡ true))
 on-tests true true high was e = (refl, inl refl)
 on-tests true false true was e = absurd (false≢true e)
 on-tests true false false was e = (refl, inr e)
 on-tests false low high was e = absurd (false≢true e)
 
 -- what is on after a reading had good data, below the lower threshold or on before
-pub on-good : (s : Shown) (lower upper : Threshold) (was : Bool) → switched s lower upper was ≡ true → (s .status ≡ 0) × ((isBelow (s .value) lower ≡ true) ⊎ (was ≡ true))
+pub on-good : (s : Shown) (lower upper : Threshold) (was : Bool) → switched s lower upper was ≡ true
+    → (s .status ≡ 0) × ((isBelow (s .value) lower ≡ true) ⊎ (was ≡ true))
 unfolding switched
 on-good s lower upper was h =
     let b = on-tests (eqb (s .status) 0) (isBelow (s .value) lower) (isAbove (s .value) upper) was h in

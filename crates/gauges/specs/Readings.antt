@@ -26,6 +26,10 @@ identifierAgrees r = Bool·beq (eqb (r .status) 6) (eqb (r .kind) 7)
 unfoldable pub withinLimits : Reading → Bool
 withinLimits r = isKnown r && inRange (r .value) && sensorAgrees r && identifierAgrees r
 
+-- "Zero has exponent 0."
+abbrev pub zeroValue : Value
+zeroValue = record { mantissa = pos 0; exponent = pos 0 }
+
 -- "A channel without a reading is status 5, kind 6."
 abbrev pub noReading : Reading
-noReading = record { kind = 6; status = 5; value = record { mantissa = pos 0; exponent = pos 0 } }
+noReading = record { kind = 6; status = 5; value = zeroValue }

@@ -16,8 +16,12 @@ use Rattle.gauges.specs.declared.reading.Reading.{Reading}
 use Rattle.gauges.specs.declared.shown.Shown.{Shown}
 
 -- "Status 5 shows 2.0000E-02 hPa."
+abbrev pub absentShows : Value
+absentShows = record { mantissa = pos 20000; exponent = negsuc 1 }
+
+-- what there is to show of a reading, in hPa
 abbrev pub inHpa : Reading → Value
-inHpa r = cond (eqb (r .status) 5) (record { mantissa = pos 20000; exponent = negsuc 1 }) (r .value)
+inHpa r = cond (eqb (r .status) 5) absentShows (r .value)
 
 -- the status, and the value in the unit, "magnitude rounded to five digits, half upwards"
 abbrev pub shownOf : Reading → ℕ → Shown

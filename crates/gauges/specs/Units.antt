@@ -4,6 +4,7 @@ use mathlib.Core.List.{List, [], _∷_}
 use lib.ListN.{getD}
 use Rattle.numbers.specs.declared.value.Ratio.{Ratio}
 
+-- n / d
 abbrev pub ratio : ℕ → ℕ → Ratio
 ratio n d = record { over = n; under = d }
 

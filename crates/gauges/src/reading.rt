@@ -13,17 +13,19 @@ pub struct Reading {
 impl Reading {
     pub const MOST_KIND: u8 = 7;
 
+    // kinds and statuses that the limits tie to each other
     pub const KIND_NO_SENSOR: u8 = 6;
 
     pub const KIND_NO_IDENTIFIER: u8 = 7;
 
-    pub const MOST_STATUS: u8 = 6;
-
-    pub const STATUS_OKAY: u8 = 0;
-
     pub const STATUS_NO_SENSOR: u8 = 5;
 
     pub const STATUS_NO_IDENTIFIER: u8 = 6;
+
+    pub const MOST_STATUS: u8 = 6;
+
+    // the one status of good data
+    pub const STATUS_OKAY: u8 = 0;
 
     pub const LEAST_EXPONENT: i32 = -20;
 

@@ -1,7 +1,6 @@
 -- `kinds::write_kind`: the part of the table that is appended is the kind's name (`named`).
 use mathlib.Core.Path.{ap, sym, _∙_}
 use mathlib.Core.List.{List, []}
-use Prim.Native.Nat.{ℕ}
 use lib.ListN.{List·getD-eq-default}
 use Rattle.text.specs.Text.{puts}
 use Rattle.gauges.specs.Kinds.{kindNames}

@@ -53,13 +53,16 @@ module _ (r : Reading) (h : withinLimits r ≡ true) where
       let s = and-true (Bool·beq (eqb (r .status) 5) (eqb (r .kind) 6)) (not (eqb (r .kind) 6) || isZero (r .value)) (ranges .1) in
       (same (eqb (r .status) 5) (eqb (r .kind) 6) (s .0), s .1)
 
-  -- a gauge of kind 6 is a channel without a reading, and so is a reading of status 5
-  pub absent : eqb (r .kind) 6 ≡ true → r ≡ noReading
+  absent : eqb (r .kind) 6 ≡ true → r ≡ noReading
   absent k =
       let z : isZero (r .value) ≡ true = rw k at (sensor .1) in
       let s = eqb-true (r .status) 5 (sensor .0 ∙ k) in
       ap₂ (λ (a b : ℕ). record { kind = a; status = b; value = r .value }) (eqb-true (r .kind) 6 k) s
       ∙ ap (λ (v : Value). record { kind = 6; status = 5; value = v }) (zero-is (r .value) z)
+
+  -- a gauge of kind 6 is a channel without a reading, and so is a reading of status 5
+  pub absent-kind : r .kind ≡ 6 → r ≡ noReading
+  absent-kind six = absent (eq-eqb (r .kind) 6 six)
 
   pub absent-status : r .status ≡ 5 → r ≡ noReading
   absent-status five = absent (sym (sensor .0) ∙ eq-eqb (r .status) 5 five)

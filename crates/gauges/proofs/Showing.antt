@@ -1,11 +1,11 @@
 -- A shown value is the nearest to the exact one in every unit, is a number that two exponent digits write, and switches on good data alone.
-use Prim.Native.Nat.{ℕ, _+_, _*_, _≤_, _<_}
+use Prim.Native.Nat.{ℕ, _+_, _*_, _≤_}
 use mathlib.Core.Path.{_≡_, refl, sym, ap, ap₂, _∙_}
 use mathlib.Core.Bool.{Bool, true, false, cond, false≢true, _&&_}
 use mathlib.Core.Logic.{_⊎_, inl, inr, ⊎-elim}
 use native.Mathlib.Omega.{arith}
-use borrow.Author.Tests.{le-leb, eqb-true}
-use lib.Dec.{eqb}
+use borrow.Author.Tests.{le-leb, leb-true, eqb-true}
+use lib.Dec.{eqb, leb}
 use lib.IntN.{pos, negsuc, natAbs, _-ℤ_}
 use lib.ListN.{length, length-append}
 use Rattle.text.specs.Text.{ascii}
@@ -25,7 +25,7 @@ use Rattle.gauges.specs.Shown.{absentShows, inHpa, shownOf, shownText, s
 use Rattle.gauges.specs.declared.reading.Reading.{Reading}
 use Rattle.gauges.specs.declared.shown.Shown.{Shown}
 use Rattle.gauges.proofs.Factors.{usable}
-use Rattle.gauges.proofs.Limits.{zero-is, in-range}
+use Rattle.gauges.proofs.Limits.{zero-is, known, in-range}
 
 module _ (r : Reading) (unit : ℕ) (five : isFive (inHpa r) ≡ true) where
   scalable : isFive (inHpa r) && isUsable (fromHpa unit) ≡ true
@@ -84,12 +84,13 @@ module _ (r : Reading) (unit : ℕ) (h : withinLimits r ≡ true) where
       or-right (isZero (shownOf r unit .value)) (isFive (shownOf r unit .value)) (ap₂ _&&_ digits two))
       zero-or-five
 
--- a status of one digit makes thirteen bytes
-pub shown-length : (s : Shown) → s .status < 10 → length (shownText s) ≡ 13
-unfolding bare scientific
-shown-length s h =
-    let one = eqb-true _ _ (everywhere (λ (n : ℕ). eqb (length (wholeText n)) 1) 10 refl (s .status) h) in
-    length-append (wholeText (s .status)) _ ∙ ap (λ (n : ℕ). n + 12) one
+  -- with its status of one digit it makes thirteen bytes
+  pub shown-length : length (shownText (shownOf r unit)) ≡ 13
+  unfolding bare scientific
+  shown-length =
+      let six = leb-true (r .status) 6 (and-true (leb (r .kind) 7) (leb (r .status) 6) (known r h) .1) in
+      let one = eqb-true _ _ (everywhere (λ (n : ℕ). eqb (length (wholeText n)) 1) 7 refl (r .status) (omega arith)) in
+      length-append (wholeText (r .status)) _ ∙ ap (λ (n : ℕ). n + 12) one
 
 on-tests : (good low high was : Bool) → cond good (cond low true (cond high false was)) false ≡ true
     → (good ≡ true) × ((low ≡ true) ⊎ (was ≡ true))

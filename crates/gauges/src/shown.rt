@@ -9,6 +9,7 @@ use numbers::value::Value;
 use numerals::writing::write_value;
 use text::Text;
 
+// A reading as it is shown: its status, and its value in the unit chosen.
 pub struct Shown {
     pub status: u8,
     pub value: Value,

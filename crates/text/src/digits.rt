@@ -33,7 +33,7 @@ fn digits_of(n: u32) -> [u8; 10]
 }
 
 impl Text {
-    // The digits from the place i on.
+    // The digits from the place `from` on.
     fn tail(self, d: [u8; 10], from: usize) -> Text
         requires { ⌜ from ≤ 10 ⌝ }
         ensures { λ r. ⌜ r ≡ puts self (drop from d) ⌝ }

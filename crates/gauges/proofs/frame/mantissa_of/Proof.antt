@@ -1,8 +1,9 @@
 -- `frame::mantissa_of`: three bytes fit, and so does what they make when it is negated.
 use Prim.Native.Nat.{ℕ, _+_, _*_, _^_, _<_}
+use mathlib.Core.Path.{_≡_}
 use lib.IntN.{pos, negℤ}
 use mir.Syntax.{w32}
-use mir.Val.{SFits}
+use mir.Val.{SFits, toZ}
 use mir.Facts.{toZ-ofZ, toZ-pos}
 use Rattle.numbers.proofs.Signed.{small, zero-minus, abs-neg}
 use borrow.Author.Needs.{needs}
@@ -16,8 +17,11 @@ made c = c .args .high * 65536 + c .args .middle * 256 + c .args .low
 three : (c : tie.Start) → made c < 2 ^ 24
 three c = search needs
 
-lower : (m : ℕ) → m < 2 ^ 24 → SFits w32 (negℤ (pos m))
-lower m h = small _ (rw abs-neg (omega arith))
+read : (c : tie.Start) → toZ w32 (made c) ≡ pos (made c)
+read c = let h = three c in toZ-pos w32 {n = made c} (omega arith)
+
+lower : (c : tie.Start) → SFits w32 (negℤ (pos (made c)))
+lower c = let h = three c in small _ (rw abs-neg (omega arith))
 
 mul-m : tie.Need-mul-m
 mul-m c = search needs
@@ -35,16 +39,16 @@ cast-result : tie.Need-cast-result
 cast-result c = search needs
 
 sub-result : tie.Need-sub-result
-sub-result c = let h = three (c .before) in rw (toZ-pos w32 {n = made (c .before)} (omega arith), zero-minus) (lower (made (c .before)) h)
+sub-result c = rw (read (c .before), zero-minus) (lower (c .before))
 
 cast-result-2 : tie.Need-cast-result-2
 cast-result-2 c = search needs
 
 returns : tie.Need-returns
-returns c = let h = three (c .before) in rw (toZ-pos w32 {n = made (c .before)} (omega arith), zero-minus, toZ-ofZ (lower (made (c .before)) h), c .if1 .taken)
+returns c = rw (read (c .before), zero-minus, toZ-ofZ (lower (c .before)), c .if1 .taken)
 
 returns-2 : tie.Need-returns-2
-returns-2 c = let h = three (c .before) in rw (toZ-pos w32 {n = made (c .before)} (omega arith), c .if1 .left)
+returns-2 c = rw (read (c .before), c .if1 .left)
 
 pub mantissa-of-spec : {M : Type 1} → statement M
 mantissa-of-spec =

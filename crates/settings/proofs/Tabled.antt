@@ -1,0 +1,52 @@
+-- The table of the stored settings' fields, entry by entry; the sheet, line by line.
+use Prim.Native.Nat.{ℕ, zero, suc, _+_, _≤_, _<_}
+use mathlib.Core.Path.{_≡_, refl, sym, ap, _∙_}
+use mathlib.Core.List.{List, [], _∷_}
+use mathlib.Core.Bool.{Bool, true, false, _&&_}
+use native.Mathlib.Omega.{arith}
+use native.Mathlib.Numerals.{add-one}
+use lib.ListN.{length, getD, take, drop, drop-of-length-le}
+use lib.Seq.{drop-cons}
+use Rattle.text.proofs.Tables.{tabled}
+use Rattle.settings.specs.Kinds.{whole, storedTable, storedKinds}
+use Rattle.settings.specs.Limits.{every}
+use Rattle.settings.specs.declared.model.Model.{Model}
+use Rattle.settings.specs.declared.kinds.Kind.{Kind}
+use Rattle.settings.specs.declared.kinds.Kind.the-variants.{Threshold}
+
+-- the limits from ERA on, as two rows of numbers
+abbrev leasts : List ℕ
+leasts = 0 ∷ 0 ∷ 0 ∷ 0 ∷ 1 ∷ 0 ∷ 0 ∷ 0 ∷ 0 ∷ []
+
+abbrev mosts : List ℕ
+mosts = 3 ∷ 1 ∷ 1 ∷ 2 ∷ 24 ∷ 1 ∷ 2 ∷ 1 ∷ 6 ∷ []
+
+abbrev behindEra : List Kind
+behindEra = whole 0 1 ∷ whole 0 1 ∷ whole 0 2 ∷ whole 1 24 ∷ whole 0 1 ∷ whole 0 2 ∷ whole 0 1 ∷ whole 0 6 ∷ []
+
+-- every entry but the first is a plain range
+pub stored-entry : (model : Model) (k : ℕ) → k < 9 → (k ≡ 0 → ⊥) → storedKinds model k ≡ whole (getD leasts k 0) (getD mosts k 0) ∷ []
+unfolding storedKinds
+stored-entry model zero h n = absurd (n refl)
+stored-entry model (suc j) h n =
+    let l : j < 8 = omega arith in
+    ap (take 1) (drop-cons behindEra j Threshold l)
+    ∙ ap (λ (k : Kind). k ∷ []) (sym (tabled (λ j. whole (getD leasts (suc j) 0) (getD mosts (suc j) 0)) 8 behindEra refl j Threshold l))
+
+pub stored-past : (model : Model) (k : ℕ) → 9 ≤ k → storedKinds model k ≡ []
+unfolding storedKinds
+stored-past model k h = ap (take 1) (drop-of-length-le (storedTable model) h)
+
+-- the test over a list, member by member
+module _ {A : Type 0} (p : A → Bool) (d : A) (xs : List A) (i : ℕ) where
+  pub every-here : i < length xs → p (getD xs i d) ≡ true → every p (drop i xs) ≡ every p (drop (i + 1) xs)
+  unfolding every
+  every-here h e = rw (add-one i, drop-cons xs i d h, e)
+
+  pub every-not : i < length xs → p (getD xs i d) ≡ false → every p (drop i xs) ≡ false
+  unfolding every
+  every-not h e = rw (drop-cons xs i d h, e)
+
+  pub every-end : length xs ≤ i → every p (drop i xs) ≡ true
+  unfolding every
+  every-end h = rw (drop-of-length-le xs h)

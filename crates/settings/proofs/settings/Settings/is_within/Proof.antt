@@ -1,0 +1,71 @@
+-- The test from line i of the sheet on is the test over the whole of it.
+use Prim.Native.Nat.{_≤_, _-_}
+use mathlib.Core.Path.{_≡_, refl, sym, ap, _∙_}
+use lib.ListN.{drop}
+use Rattle.settings.specs.Mnemonics.{sheet}
+use Rattle.settings.specs.Limits.{every, rowWithin, within}
+use Rattle.settings.specs.declared.mnemonic.Setting.the-variants.{Uni}
+use Rattle.settings.proofs.Tabled.{every-here, every-not, every-end}
+use borrow.Author.Needs.{needs}
+use native.Mathlib.Omega.{arith}
+use Rattle.settings.proofs.settings.Settings.is_within.Statement.{statement}
+use Rattle.settings.proofs.settings.Settings.is_within.Tie as tie
+
+abbrev Inv-loop : tie.InvT-loop
+Inv-loop self model i₀ i = (i ≤ 17) × (every (rowWithin model self) (drop i (sheet model)) ≡ within model self)
+
+abbrev μ-loop : tie.MeasureT-loop
+μ-loop self model i₀ i = 17 - i
+
+loop-holds : tie.Need-loop-holds Inv-loop μ-loop
+unfolding within
+loop-holds c = (omega arith, refl)
+
+sheet-at-requires : tie.Need-sheet-at-requires Inv-loop μ-loop
+sheet-at-requires c κs = search needs
+
+row-is-within-requires : tie.Need-row-is-within-requires Inv-loop μ-loop
+row-is-within-requires c κs = search needs
+
+add-i : tie.Need-add-i Inv-loop μ-loop
+add-i c = search needs
+
+loop-less : tie.Need-loop-less Inv-loop μ-loop
+loop-less c = search needs
+
+loop-again : tie.Need-loop-again Inv-loop μ-loop
+loop-again c =
+    let l = c .before .before .before .before .loop in
+    let a = c .before .before .before .before .before .args in
+    let p = rowWithin (a .model) (a .self) in
+    let s = c .before .row-is-within .ensures ∙ ap p (c .before .before .sheet-at .ensures) in
+    (omega arith, sym (every-here p Uni (sheet (a .model)) (l .i) (c .before .before .before .loop-test .taken) (sym s ∙ c .if1 .taken)) ∙ l .inv .1)
+
+returns : tie.Need-returns Inv-loop μ-loop
+returns c =
+    let l = c .before .before .before .before .loop in
+    let a = c .before .before .before .before .before .args in
+    let p = rowWithin (a .model) (a .self) in
+    let s = c .before .row-is-within .ensures ∙ ap p (c .before .before .sheet-at .ensures) in
+    sym (every-not p Uni (sheet (a .model)) (l .i) (c .before .before .before .loop-test .taken) (sym s ∙ c .if1 .left)) ∙ l .inv .1
+
+returns-2 : tie.Need-returns-2 Inv-loop μ-loop
+returns-2 c =
+    let l = c .before .loop in
+    let a = c .before .before .args in
+    sym (every-end (rowWithin (a .model) (a .self)) Uni (sheet (a .model)) (l .i) (c .loop-test .left)) ∙ l .inv .1
+
+pub is-within-spec : {M : Type 1} → statement M
+is-within-spec =
+    tie.close
+    (tie.spec
+    Inv-loop
+    μ-loop
+    loop-holds
+    sheet-at-requires
+    row-is-within-requires
+    add-i
+    loop-less
+    loop-again
+    returns
+    returns-2)

@@ -1,0 +1,5 @@
+pub mod Models
+pub mod Mnemonics
+pub mod Kinds
+pub mod Rows
+pub mod Limits

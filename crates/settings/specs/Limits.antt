@@ -1,0 +1,59 @@
+-- The limits of settings on a model (01, "Readings, switching, streaming": "every value above in range, on a 361
+-- channel-2 cells at their defaults and no channel-2 choice").
+use Prim.Native.Nat.{ℕ}
+use mathlib.Core.List.{List, [], _∷_}
+use mathlib.Core.Bool.{Bool, true, cond, _&&_}
+use lib.ListN.{length, getD}
+use lib.Dec.{leb, ltb, eqb}
+use lib.IntN.{ℤ, pos}
+use Rattle.numbers.specs.Numbers.{between, withinStops}
+use Rattle.numbers.specs.declared.threshold.Threshold.{Threshold}
+use Rattle.settings.specs.Models.{defaults}
+use Rattle.settings.specs.Mnemonics.{sheet}
+use Rattle.settings.specs.Kinds.{kinds}
+use Rattle.settings.specs.Rows.{row}
+use Rattle.settings.specs.declared.model.Model.{Model}
+use Rattle.settings.specs.declared.mnemonic.Setting.{Setting}
+use Rattle.settings.specs.declared.mnemonic.Mnemonic.the-variants.{Setting as Of}
+use Rattle.settings.specs.declared.kinds.Limits.{Limits}
+use Rattle.settings.specs.declared.kinds.Kind.{Kind}
+use Rattle.settings.specs.declared.kinds.Kind.the-variants.{Whole, Factor, Threshold as Level}
+use Rattle.settings.specs.declared.rows.Row.{Row}
+use Rattle.settings.specs.declared.settings.Settings.{Settings}
+
+-- a plain number from the least to the most
+abbrev pub inside : Limits → Threshold → Bool
+inside l c = between (pos 0) (pos 0) (c .exponent) && (leb (l .least) (c .mantissa) && leb (c .mantissa) (l .most))
+
+-- a field of the kind may hold the cell
+abbrev pub fits : Kind → Threshold → Bool
+fits (Whole l) c = inside l c
+fits (Factor l) c = inside l c
+fits Level c = withinStops c
+
+-- two cells are the same
+abbrev pub sameCell : Threshold → Threshold → Bool
+sameCell c d = eqb (c .mantissa) (d .mantissa) && between (d .exponent) (d .exponent) (c .exponent)
+
+-- "every value above in range": a cell fits its field; "channel-2 cells at their defaults": where the model has no field for it
+abbrev pub placeWithin : Bool → Kind → Threshold → Threshold → Bool
+placeWithin has kind cell default = cond has (fits kind cell) (sameCell cell default)
+
+-- so for each cell of a row, beside the row's default
+abbrev pub rowFits : List Kind → Row → Row → Bool
+rowFits ks r d =
+    placeWithin (ltb 0 (length ks)) (getD ks 0 Level) (r .first) (d .first)
+    && (placeWithin (ltb 1 (length ks)) (getD ks 1 Level) (r .second) (d .second)
+    && placeWithin (ltb 2 (length ks)) (getD ks 2 Level) (r .third) (d .third))
+
+abbrev pub rowWithin : Model → Settings → Setting → Bool
+rowWithin model s x = rowFits (kinds model (Of x)) (row s x) (row (defaults model) x)
+
+-- a test holds of every member of a list
+unfoldable pub every : {A : Type 0} → (A → Bool) → List A → Bool
+every p [] = true
+every p (x ∷ xs) = p x && every p xs
+
+-- the limits of settings on a model
+unfoldable pub within : Model → Settings → Bool
+within model s = every (rowWithin model s) (sheet model)

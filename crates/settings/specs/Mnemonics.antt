@@ -1,0 +1,77 @@
+-- The mnemonics, their names and the sheet (01, "What the box answers to").
+use Prim.Native.Nat.{ℕ}
+use Prim.Native.String.{String}
+use mathlib.Core.List.{List, [], _∷_, _++_, map}
+use lib.ListN.{getD}
+use Rattle.text.specs.Text.{ascii}
+use Rattle.settings.specs.declared.model.Model.{Model}
+use Rattle.settings.specs.declared.mnemonic.Setting.{Setting}
+use Rattle.settings.specs.declared.mnemonic.Setting.the-variants.{Uni, Fil, Cal, Dcd, Sp, Stored}
+use Rattle.settings.specs.declared.mnemonic.Query.{Query}
+use Rattle.settings.specs.declared.mnemonic.Query.the-variants.{Sps, Pr, Prx, Tid, Ayt, Err}
+use Rattle.settings.specs.declared.mnemonic.Mnemonic.{Mnemonic}
+use Rattle.settings.specs.declared.mnemonic.Mnemonic.the-variants.{Setting as Of, Cf, Query as Asked, Com, Sav}
+
+-- "UNI FIL CAL DCD SP1 SP2 SP3 SP4 ERA EVA FMT LNG NAD PRE PRO PUC DCS (the seventeen of the sheet, in this order)"
+abbrev pub sheet : Model → List Setting
+sheet model =
+    Uni ∷ Fil ∷ Cal ∷ Dcd ∷ Sp 0 ∷ Sp 1 ∷ Sp 2 ∷ Sp 3 ∷ Stored 0 ∷ Stored 1 ∷ Stored 2 ∷ Stored 3 ∷ Stored 4 ∷ Stored 5 ∷ Stored 6 ∷ Stored 7 ∷ Stored 8 ∷ []
+
+-- a line of the sheet; past the last one it is the first
+abbrev pub sheetAt : Model → ℕ → Setting
+sheetAt model i = getD (sheet model) i Uni
+
+-- "and CF1 CF2 SPS PR1 PR2 PRX TID AYT ERR COM SAV"
+abbrev pub others : List Mnemonic
+others = Cf 0 ∷ Cf 1 ∷ Asked Sps ∷ Asked (Pr 0) ∷ Asked (Pr 1) ∷ Asked Prx ∷ Asked Tid ∷ Asked Ayt ∷ Asked Err ∷ Com ∷ Sav ∷ []
+
+-- "Every other mnemonic is unknown"
+unfoldable pub known : Model → List Mnemonic
+known model = map Of (sheet model) ++ others
+
+-- a name that ends with a number, counted from 1
+abbrev pub numbered : String → ℕ → List ℕ
+numbered s k = ascii s ++ (getD (ascii "1234") k 32 ∷ [])
+
+abbrev pub storedNames : List (List ℕ)
+storedNames =
+    ascii "ERA" ∷ ascii "EVA" ∷ ascii "FMT" ∷ ascii "LNG" ∷ ascii "NAD" ∷ ascii "PRE" ∷ ascii "PRO" ∷ ascii "PUC" ∷ ascii "DCS" ∷ []
+
+abbrev pub settingName : Setting → List ℕ
+settingName Uni = ascii "UNI"
+settingName Fil = ascii "FIL"
+settingName Cal = ascii "CAL"
+settingName Dcd = ascii "DCD"
+settingName (Sp k) = numbered "SP" k
+settingName (Stored k) = getD storedNames k []
+
+abbrev pub queryName : Query → List ℕ
+queryName Sps = ascii "SPS"
+queryName (Pr k) = numbered "PR" k
+queryName Prx = ascii "PRX"
+queryName Tid = ascii "TID"
+queryName Ayt = ascii "AYT"
+queryName Err = ascii "ERR"
+
+abbrev pub name : Mnemonic → List ℕ
+name (Of x) = settingName x
+name (Cf k) = numbered "CF" k
+name (Asked q) = queryName q
+name Com = ascii "COM"
+name Sav = ascii "SAV"
+
+-- the channel that a mnemonic is about, from 0 on; 0 where it is about none
+abbrev pub queryChannel : Query → ℕ
+queryChannel Sps = 0
+queryChannel (Pr k) = k
+queryChannel Prx = 0
+queryChannel Tid = 0
+queryChannel Ayt = 0
+queryChannel Err = 0
+
+abbrev pub channelOf : Mnemonic → ℕ
+channelOf (Of x) = 0
+channelOf (Cf k) = k
+channelOf (Asked q) = queryChannel q
+channelOf Com = 0
+channelOf Sav = 0

@@ -1,0 +1,45 @@
+-- The models and what they start with (01, "What the box answers to", "Settings" and "Readings, switching, streaming").
+use Prim.Native.Nat.{ℕ}
+use mathlib.Core.List.{List, [], _∷_}
+use mathlib.Core.Bool.{Bool}
+use lib.Dec.{eqb}
+use lib.IntN.{negsuc}
+use Rattle.text.specs.Text.{ascii}
+use Rattle.numbers.specs.declared.threshold.Threshold.{Threshold}
+use Rattle.settings.specs.declared.model.Model.{Model}
+use Rattle.settings.specs.declared.model.Model.the-variants.{Tpg361, Tpg362}
+use Rattle.settings.specs.declared.settings.Switching.{Switching}
+use Rattle.settings.specs.declared.settings.Settings.{Settings}
+
+-- "a TPG 361 (one channel) or TPG 362 (two channels)"
+abbrev pub channels : Model → ℕ
+channels Tpg361 = 1
+channels Tpg362 = 2
+
+-- "AYT on a 362 .. sends TPG362,PTG28290,..; a 361 sends TPG361 and PTG28040"
+abbrev pub names : Model → List ℕ
+names Tpg361 = ascii "TPG361,PTG28040"
+names Tpg362 = ascii "TPG362,PTG28290"
+
+-- "Assignment 0 is off, 1 is on. For 2 and 3 (channel 1, 2) .. a fresh box or a power cycle sets it off."
+abbrev pub startsOn : Model → ℕ → Bool
+startsOn model assignment = eqb assignment 1
+
+-- "0, 1.0000E-09, 9.0000E-07 (ours)"
+abbrev pub unassigned : Switching
+unassigned = record {
+  assignment = 0;
+  lower = record { mantissa = 10000; exponent = negsuc 8 };
+  upper = record { mantissa = 90000; exponent = negsuc 6 };
+}
+
+-- the column "Default"; both models have the same
+abbrev pub defaults : Model → Settings
+defaults model = record {
+  unit = 4;
+  filters = 2 ∷ 2 ∷ [];
+  factors = 1000 ∷ 1000 ∷ [];
+  resolutions = 0 ∷ 0 ∷ [];
+  switching = unassigned ∷ unassigned ∷ unassigned ∷ unassigned ∷ [];
+  stored = 0 ∷ 0 ∷ 0 ∷ 0 ∷ 1 ∷ 0 ∷ 0 ∷ 0 ∷ 0 ∷ [];
+}

@@ -1,0 +1,153 @@
+// The fields that a mnemonic takes on a model: how many, of which kind, with which limits.
+ghost use mathlib.Core.Path.{_≡_};
+ghost use mathlib.Core.List.{[], _∷_};
+ghost use Rattle.settings.specs.Kinds.{packed, whole, factor, assignment, perChannel, storedKinds, settingKinds, kinds};
+ghost use Rattle.settings.specs.declared.kinds.Kind.the-variants.{Threshold};
+use crate::mnemonic::Mnemonic;
+use crate::mnemonic::Setting;
+use crate::model::Model;
+
+// From least to most; above it, up to reach, stands what needs a second channel that the model lacks.
+pub struct Limits {
+    pub least: u32,
+    pub most: u32,
+    pub reach: u32,
+}
+
+pub enum Kind {
+    Whole(Limits),
+    // in thousandths
+    Factor(Limits),
+    Threshold,
+}
+
+// Up to three kinds.
+pub struct Kinds {
+    pub count: usize,
+    pub first: Kind,
+    pub second: Kind,
+    pub third: Kind,
+}
+
+fn whole(least: u32, most: u32) -> Kind
+    ensures { λ r. ⌜ r ≡ whole least most ⌝ }
+{
+    Kind::Whole(Limits {
+        least,
+        most,
+        reach: most,
+    })
+}
+
+fn factor() -> Kind
+    ensures { λ r. ⌜ r ≡ factor ⌝ }
+{
+    Kind::Factor(Limits {
+        least: 100,
+        most: 10000,
+        reach: 10000,
+    })
+}
+
+// An assignment, or ERA: 3 needs channel 2.
+fn assignment(model: Model) -> Kind
+    ensures { λ r. ⌜ r ≡ assignment model ⌝ }
+{
+    match model {
+        Model::Tpg361 => Kind::Whole(Limits {
+            least: 0,
+            most: 2,
+            reach: 3,
+        }),
+        Model::Tpg362 => Kind::Whole(Limits {
+            least: 0,
+            most: 3,
+            reach: 3,
+        }),
+    }
+}
+
+fn none() -> Kinds
+    ensures { λ r. ⌜ r ≡ packed [] ⌝ }
+{
+    Kinds {
+        count: 0,
+        first: Kind::Threshold,
+        second: Kind::Threshold,
+        third: Kind::Threshold,
+    }
+}
+
+fn one(k: Kind) -> Kinds
+    ensures { λ r. ⌜ r ≡ packed (k ∷ []) ⌝ }
+{
+    Kinds {
+        count: 1,
+        first: k,
+        second: Kind::Threshold,
+        third: Kind::Threshold,
+    }
+}
+
+fn per_channel(model: Model, k: Kind) -> Kinds
+    ensures { λ r. ⌜ r ≡ packed (perChannel model k) ⌝ }
+{
+    match model {
+        Model::Tpg361 => one(k),
+        Model::Tpg362 => Kinds {
+            count: 2,
+            first: k,
+            second: k,
+            third: Kind::Threshold,
+        },
+    }
+}
+
+// EVA FMT LNG NAD PRE PRO PUC DCS, behind ERA
+const LEAST: [u32; 9] = [0, 0, 0, 0, 1, 0, 0, 0, 0];
+
+const MOST: [u32; 9] = [3, 1, 1, 2, 24, 1, 2, 1, 6];
+
+fn stored_kinds(model: Model, k: u8) -> Kinds
+    ensures { λ r. ⌜ r ≡ packed (storedKinds model k) ⌝ }
+{
+    let i = k as usize;
+    if i == 0 {
+        return one(assignment(model));
+    }
+    if i < 9 {
+        return one(whole(LEAST[i], MOST[i]));
+    }
+    none()
+}
+
+fn setting_kinds(model: Model, x: Setting) -> Kinds
+    ensures { λ r. ⌜ r ≡ packed (settingKinds model x) ⌝ }
+{
+    match x {
+        Setting::Uni => one(whole(0, 4)),
+        Setting::Fil => per_channel(model, whole(0, 3)),
+        Setting::Cal => per_channel(model, factor()),
+        Setting::Dcd => per_channel(model, whole(0, 4)),
+        Setting::Sp(_) => Kinds {
+            count: 3,
+            first: assignment(model),
+            second: Kind::Threshold,
+            third: Kind::Threshold,
+        },
+        Setting::Stored(k) => stored_kinds(model, k),
+    }
+}
+
+// The fields of a mnemonic on a model.
+pub fn shape(model: Model, m: Mnemonic) -> Kinds
+    ensures { λ r. ⌜ r ≡ packed (kinds model m) ⌝ }
+{
+    match m {
+        Mnemonic::Setting(x) => setting_kinds(model, x),
+        Mnemonic::Cf(_) => one(factor()),
+        Mnemonic::Query(_) => none(),
+        Mnemonic::Com => one(whole(0, 2)),
+        Mnemonic::Sav => one(whole(0, 1)),
+    }
+}

@@ -1,0 +1,84 @@
+// The limits of settings on a model.
+ghost use mathlib.Core.Path.{_≡_};
+ghost use Rattle.settings.specs.Limits.{inside, fits, sameCell, placeWithin, rowWithin, within};
+use crate::kinds::Kind;
+use crate::kinds::Limits;
+use crate::kinds::shape;
+use crate::mnemonic::Mnemonic;
+use crate::mnemonic::Setting;
+use crate::mnemonic::sheet_at;
+use crate::model::Model;
+use crate::settings::Settings;
+use numbers::threshold::Threshold;
+
+fn is_inside(l: Limits, cell: Threshold) -> bool
+    ensures { λ r. ⌜ r ≡ inside l cell ⌝ }
+{
+    let n = cell.mantissa;
+    let e = cell.exponent;
+    (0 <= e) & (e <= 0) & ((l.least <= n) & (n <= l.most))
+}
+
+// Whether a field of this kind may hold the cell.
+pub fn fits(kind: Kind, cell: Threshold) -> bool
+    ensures { λ r. ⌜ r ≡ fits kind cell ⌝ }
+{
+    match kind {
+        Kind::Whole(l) => is_inside(l, cell),
+        Kind::Factor(l) => is_inside(l, cell),
+        Kind::Threshold => cell.is_within(),
+    }
+}
+
+fn is_same(cell: Threshold, default: Threshold) -> bool
+    ensures { λ r. ⌜ r ≡ sameCell cell default ⌝ }
+{
+    let n = cell.mantissa;
+    let e = cell.exponent;
+    let m = default.mantissa;
+    let d = default.exponent;
+    (n == m) & ((d <= e) & (e <= d))
+}
+
+// A cell fits its field; where the model has no field for it, it is at its default.
+fn place_is_within(has: bool, kind: Kind, cell: Threshold, default: Threshold) -> bool
+    ensures { λ r. ⌜ r ≡ placeWithin has kind cell default ⌝ }
+{
+    if has {
+        return fits(kind, cell);
+    }
+    is_same(cell, default)
+}
+
+impl Settings {
+    fn row_is_within(self, model: Model, x: Setting) -> bool
+        ensures { λ r. ⌜ r ≡ rowWithin model self x ⌝ }
+    {
+        let ks = shape(model, Mnemonic::Setting(x));
+        let n = ks.count;
+        let r = self.row(x);
+        let d = model.defaults().row(x);
+        let k = ks.first;
+        let l = ks.second;
+        let o = ks.third;
+        let first = place_is_within(0 < n, k, r.first, d.first);
+        let second = place_is_within(1 < n, l, r.second, d.second);
+        let third = place_is_within(2 < n, o, r.third, d.third);
+        first & (second & third)
+    }
+
+    // Whether a box of the model may be set so.
+    pub fn is_within(self, model: Model) -> bool
+        ensures { λ r. ⌜ r ≡ within model self ⌝ }
+    {
+        let mut i: usize = 0;
+        while i < Model::SHEET_LENGTH {
+            if self.row_is_within(model, sheet_at(model, i)) {
+                i += 1;
+            } else {
+                return false;
+            }
+        }
+        true
+    }
+}

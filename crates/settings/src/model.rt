@@ -1,0 +1,83 @@
+// The models, and the rules that belong to one.
+ghost use mathlib.Core.Path.{_≡_};
+ghost use lib.ListN.{length, getD};
+ghost use Rattle.text.specs.Text.{puts};
+ghost use Rattle.settings.specs.Models.{channels, names, startsOn, defaults};
+ghost use Rattle.settings.specs.Mnemonics.{sheet};
+use crate::settings::Settings;
+use crate::settings::Switching;
+use numbers::threshold::Threshold;
+use text::Text;
+
+pub enum Model {
+    Tpg361,
+    Tpg362,
+}
+
+const NAMES_361: [u8; 15] = *b"TPG361,PTG28040";
+
+const NAMES_362: [u8; 15] = *b"TPG362,PTG28290";
+
+impl Model {
+    // how many lines a sheet of settings has
+    pub const SHEET_LENGTH: usize = 17;
+
+    // the mode that a box streams in from power-on
+    pub const POWER_ON_MODE: u32 = 1;
+
+    // the assignment of a switching function that is always on
+    pub const ALWAYS_ON: u32 = 1;
+
+    pub fn channels(self) -> usize
+        ensures { λ r. ⌜ r ≡ channels self ⌝ }
+    {
+        match self {
+            Model::Tpg361 => 1,
+            Model::Tpg362 => 2,
+        }
+    }
+
+    // The text with the model's names for AYT put behind it.
+    pub fn write_names(self, t: Text) -> Text
+        ensures { λ r. ⌜ r ≡ puts t (names self) ⌝ }
+    {
+        match self {
+            Model::Tpg361 => t.append(&NAMES_361),
+            Model::Tpg362 => t.append(&NAMES_362),
+        }
+    }
+
+    // Whether a switching function of this assignment is on before any reading.
+    pub fn starts_on(self, assignment: u32) -> bool
+        ensures { λ r. ⌜ r ≡ startsOn self assignment ⌝ }
+    {
+        assignment == Model::ALWAYS_ON
+    }
+
+    // What a fresh box is set to.
+    pub fn defaults(self) -> Settings
+        ensures { λ r. ⌜ r ≡ defaults self ⌝ }
+    {
+        let lower = Threshold {
+            mantissa: 10000,
+            exponent: -9,
+        };
+        let upper = Threshold {
+            mantissa: 90000,
+            exponent: -7,
+        };
+        let w = Switching {
+            assignment: 0,
+            lower,
+            upper,
+        };
+        Settings {
+            unit: 4,
+            filters: [2, 2],
+            factors: [1000, 1000],
+            resolutions: [0, 0],
+            switching: [w, w, w, w],
+            stored: [0, 0, 0, 0, 1, 0, 0, 0, 0],
+        }
+    }
+}

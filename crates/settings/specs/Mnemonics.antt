@@ -2,13 +2,17 @@
 use Prim.Native.Nat.{ℕ}
 use Prim.Native.String.{String}
 use mathlib.Core.List.{List, [], _∷_, _++_, map}
+use mathlib.Core.Bool.{Bool, true, false, cond, _&&_}
 use lib.ListN.{getD}
+use lib.Dec.{eqb}
 use Rattle.text.specs.Text.{ascii}
 use Rattle.settings.specs.declared.model.Model.{Model}
 use Rattle.settings.specs.declared.mnemonic.Setting.{Setting}
 use Rattle.settings.specs.declared.mnemonic.Setting.the-variants.{Uni, Fil, Cal, Dcd, Sp, Stored}
 use Rattle.settings.specs.declared.mnemonic.Query.{Query}
 use Rattle.settings.specs.declared.mnemonic.Query.the-variants.{Sps, Pr, Prx, Tid, Ayt, Err}
+use Rattle.settings.specs.declared.mnemonic.Named.{Named}
+use Rattle.settings.specs.declared.mnemonic.Named.the-variants.{Known, Unknown}
 use Rattle.settings.specs.declared.mnemonic.Mnemonic.{Mnemonic}
 use Rattle.settings.specs.declared.mnemonic.Mnemonic.the-variants.{Setting as Of, Cf, Query as Asked, Com, Sav}
 
@@ -25,9 +29,13 @@ sheetAt model i = getD (sheet model) i Uni
 abbrev pub others : List Mnemonic
 others = Cf 0 ∷ Cf 1 ∷ Asked Sps ∷ Asked (Pr 0) ∷ Asked (Pr 1) ∷ Asked Prx ∷ Asked Tid ∷ Asked Ayt ∷ Asked Err ∷ Com ∷ Sav ∷ []
 
--- "Every other mnemonic is unknown"
+-- all that are known: those of the sheet and the others
 unfoldable pub known : Model → List Mnemonic
 known model = map Of (sheet model) ++ others
+
+-- a mnemonic that is known, by its place
+abbrev pub knownAt : Model → ℕ → Mnemonic
+knownAt model i = getD (known model) i (Of Uni)
 
 -- a name that ends with a number, counted from 1
 abbrev pub numbered : String → ℕ → List ℕ
@@ -59,6 +67,22 @@ name (Cf k) = numbered "CF" k
 name (Asked q) = queryName q
 name Com = ascii "COM"
 name Sav = ascii "SAV"
+
+-- two lists of bytes are the same
+unfoldable pub same : List ℕ → List ℕ → Bool
+same [] [] = true
+same [] (y ∷ ys) = false
+same (x ∷ xs) [] = false
+same (x ∷ xs) (y ∷ ys) = eqb x y && same xs ys
+
+-- the first mnemonic of the list that a word names
+unfoldable pub found : List ℕ → List Mnemonic → Named
+found word [] = Unknown
+found word (m ∷ ms) = cond (same (name m) word) (Known m) (found word ms)
+
+-- "Every other mnemonic is unknown"
+unfoldable pub recognised : Model → List ℕ → Named
+recognised model word = found word (known model)
 
 -- the channel that a mnemonic is about, from 0 on; 0 where it is about none
 abbrev pub queryChannel : Query → ℕ

@@ -6,7 +6,6 @@ use crate::kinds::Limits;
 use crate::kinds::shape;
 use crate::mnemonic::Mnemonic;
 use crate::mnemonic::Setting;
-use crate::mnemonic::sheet_at;
 use crate::model::Model;
 use crate::settings::Settings;
 use numbers::threshold::Threshold;
@@ -73,7 +72,7 @@ impl Settings {
     {
         let mut i: usize = 0;
         while i < Model::SHEET_LENGTH {
-            if self.row_is_within(model, sheet_at(model, i)) {
+            if self.row_is_within(model, model.sheet_at(i)) {
                 i += 1;
             } else {
                 return false;

@@ -1,7 +1,8 @@
 // The mnemonics: families that carry a number where there are several of a kind.
 ghost use mathlib.Core.Path.{_≡_};
-ghost use lib.ListN.{getD};
-ghost use Rattle.settings.specs.Mnemonics.{channelOf, sheetAt};
+ghost use mathlib.Core.List.{[], _∷_};
+ghost use Prim.Native.Nat.{_<_};
+ghost use Rattle.settings.specs.Mnemonics.{sheetAt, knownAt, name, same, recognised, channelOf};
 use crate::model::Model;
 
 // Those of the sheet, each of which holds settings.
@@ -55,14 +56,78 @@ const SHEET: [Setting; 17] = [
     Setting::Stored(8),
 ];
 
-// The setting on each line of a model's sheet; past the last line it is the first.
-pub fn sheet_at(model: Model, i: usize) -> Setting
-    ensures { λ r. ⌜ r ≡ sheetAt model i ⌝ }
-{
-    if i < Model::SHEET_LENGTH {
-        return SHEET[i];
+const OTHERS: [Mnemonic; 11] = [
+    Mnemonic::Cf(0),
+    Mnemonic::Cf(1),
+    Mnemonic::Query(Query::Sps),
+    Mnemonic::Query(Query::Pr(0)),
+    Mnemonic::Query(Query::Pr(1)),
+    Mnemonic::Query(Query::Prx),
+    Mnemonic::Query(Query::Tid),
+    Mnemonic::Query(Query::Ayt),
+    Mnemonic::Query(Query::Err),
+    Mnemonic::Com,
+    Mnemonic::Sav,
+];
+
+// The names of the sheet and of the others, three letters each.
+const NAMES: [u8; 84] =
+    *b"UNIFILCALDCDSP1SP2SP3SP4ERAEVAFMTLNGNADPREPROPUCDCSCF1CF2SPSPR1PR2PRXTIDAYTERRCOMSAV";
+
+// What three letters name.
+pub enum Named {
+    Known(Mnemonic),
+    Unknown,
+}
+
+impl Model {
+    // how many mnemonics a box knows
+    const KNOWN: usize = 28;
+
+    // The setting on a line of the sheet; past the last line it is the first.
+    pub fn sheet_at(self, i: usize) -> Setting
+        ensures { λ r. ⌜ r ≡ sheetAt self i ⌝ }
+    {
+        if i < Model::SHEET_LENGTH {
+            return SHEET[i];
+        }
+        Setting::Uni
     }
-    Setting::Uni
+
+    fn known_at(self, i: usize) -> Mnemonic
+        requires { ⌜ i < 28 ⌝ }
+        ensures { λ r. ⌜ r ≡ knownAt self i ⌝ }
+    {
+        if i < Model::SHEET_LENGTH {
+            return Mnemonic::Setting(self.sheet_at(i));
+        }
+        OTHERS[i - Model::SHEET_LENGTH]
+    }
+
+    // Whether the letters are the name of the mnemonic i.
+    fn spells(self, i: usize, a: u8, b: u8, c: u8) -> bool
+        requires { ⌜ i < 28 ⌝ }
+        ensures { λ r. ⌜ r ≡ same (name (knownAt self i)) (a ∷ b ∷ c ∷ []) ⌝ }
+    {
+        let x = NAMES[i * 3] == a;
+        let y = NAMES[i * 3 + 1] == b;
+        let z = NAMES[i * 3 + 2] == c;
+        x & (y & z)
+    }
+
+    // The mnemonic of three letters.
+    pub fn named(self, a: u8, b: u8, c: u8) -> Named
+        ensures { λ r. ⌜ r ≡ recognised self (a ∷ b ∷ c ∷ []) ⌝ }
+    {
+        let mut i: usize = 0;
+        while i < Model::KNOWN {
+            if self.spells(i, a, b, c) {
+                return Named::Known(self.known_at(i));
+            }
+            i += 1;
+        }
+        Named::Unknown
+    }
 }
 
 // The channel that a mnemonic is about, from 0 on; 0 where it is about none.

@@ -28,7 +28,8 @@ pub fn plain(n: u32) -> Threshold
     }
 }
 
-fn pair_row(a: u32, b: u32) -> Row
+// Up to two numbers as a row.
+pub fn pair_row(a: u32, b: u32) -> Row
     ensures { λ r. ⌜ r ≡ pairRow a b ⌝ }
 {
     Row {

@@ -3,8 +3,8 @@ use lib.ListN.{List·getD-eq-default}
 use Rattle.settings.specs.Mnemonics.{sheet}
 use Rattle.settings.specs.declared.mnemonic.Setting.the-variants.{Uni}
 use borrow.Author.Needs.{needs}
-use Rattle.settings.proofs.mnemonic.sheet_at.Statement.{statement}
-use Rattle.settings.proofs.mnemonic.sheet_at.Tie as tie
+use Rattle.settings.proofs.model.Model.sheet_at.Statement.{statement}
+use Rattle.settings.proofs.model.Model.sheet_at.Tie as tie
 
 mul-result : tie.Need-mul-result
 mul-result c = search needs
@@ -16,7 +16,7 @@ returns : tie.Need-returns
 returns c = search needs
 
 returns-2 : tie.Need-returns-2
-returns-2 c = let a = c .before .args in sym (List·getD-eq-default (sheet (a .model)) Uni (c .if1 .left))
+returns-2 c = let a = c .before .args in sym (List·getD-eq-default (sheet (a .self)) Uni (c .if1 .left))
 
 pub sheet-at-spec : {M : Type 1} → statement M
 sheet-at-spec = tie.close (tie.spec mul-result array-copy-out-result returns returns-2)

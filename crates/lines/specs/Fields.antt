@@ -1,0 +1,57 @@
+-- One field: what each kind reads, and what it writes (01, "Settings" and "Bytes from the host").
+use Prim.Native.Nat.{ℕ}
+use mathlib.Core.List.{List}
+use mathlib.Core.Bool.{cond, _&&_}
+use lib.Dec.{leb}
+use Rattle.text.specs.Digits.{wholeText, factorText}
+use Rattle.numbers.specs.declared.threshold.Threshold.{Threshold}
+use Rattle.numerals.specs.Whole.{wholeOf, factorOf}
+use Rattle.numerals.specs.Threshold.{thresholdOf}
+use Rattle.numerals.specs.Writing.{thresholdText}
+use Rattle.numerals.specs.declared.whole.Numeral.{Numeral}
+use Rattle.numerals.specs.declared.whole.Numeral.the-variants.{Number, Malformed as NoNumber}
+use Rattle.numerals.specs.declared.threshold.ThresholdNumeral.{ThresholdNumeral}
+use Rattle.numerals.specs.declared.threshold.ThresholdNumeral.the-variants.{Within, Malformed as NoThreshold, OutOfRange}
+use Rattle.settings.specs.Rows.{plain}
+use Rattle.settings.specs.declared.kinds.Limits.{Limits}
+use Rattle.settings.specs.declared.kinds.Kind.{Kind}
+use Rattle.settings.specs.declared.kinds.Kind.the-variants.{Whole, Factor, Threshold as Level}
+use Rattle.lines.specs.declared.verdict.Fault.{Fault}
+use Rattle.lines.specs.declared.verdict.Fault.the-variants.{Syntax, Parameter, Hardware}
+use Rattle.lines.specs.declared.verdict.Field.{Field}
+use Rattle.lines.specs.declared.verdict.Field.the-variants.{Held, Malformed, Faulty}
+
+-- "0100 no hardware, 0010 inadmissible parameter, 0001 syntax"
+abbrev pub errorWord : Fault → ℕ
+errorWord Syntax = 1
+errorWord Parameter = 10
+errorWord Hardware = 100
+
+-- "value of every field .., 0010, or 0100 where it needs channel 2 on a 361"
+unfoldable pub limited : Limits → ℕ → Field
+limited l n =
+    cond (leb (l .least) n && leb n (l .most)) (Held (plain n))
+    (cond (leb (l .least) n && leb n (l .reach)) (Faulty Hardware) (Faulty Parameter))
+
+-- a number that is malformed is a fault of form
+abbrev pub ranged : Limits → Numeral → Field
+ranged l NoNumber = Malformed
+ranged l (Number n) = limited l n
+
+-- "zero, or a result outside 1.0000E-20 to 9.9999E+20, is 0010"
+abbrev pub thresholdField : ThresholdNumeral → Field
+thresholdField NoThreshold = Malformed
+thresholdField OutOfRange = Faulty Parameter
+thresholdField (Within t) = Held t
+
+-- a field read by its kind
+abbrev pub read : Kind → List ℕ → Field
+read (Whole l) t = ranged l (wholeOf t)
+read (Factor l) t = ranged l (factorOf t)
+read Level t = thresholdField (thresholdOf t)
+
+-- "Replies: whole numbers without leading zeros, factors as 1.000, thresholds as d.ddddE, sign, two digits"
+abbrev pub write : Kind → Threshold → List ℕ
+write (Whole l) c = wholeText (c .mantissa)
+write (Factor l) c = factorText (c .mantissa)
+write Level c = thresholdText c

@@ -1,0 +1,92 @@
+-- A line is judged (01, "Bytes from the host": "A line is checked in this order, and the first fault decides").
+use Prim.Native.Nat.{ℕ}
+use mathlib.Core.List.{List, [], _∷_, map}
+use mathlib.Core.Bool.{cond}
+use lib.Dec.{eqb, ltb}
+use lib.ListN.{length, getD}
+use Rattle.numbers.specs.declared.threshold.Threshold.{Threshold}
+use Rattle.settings.specs.Models.{channels}
+use Rattle.settings.specs.Mnemonics.{recognised, channelOf}
+use Rattle.settings.specs.Kinds.{kinds}
+use Rattle.settings.specs.Rows.{plain, pairRow}
+use Rattle.settings.specs.declared.model.Model.{Model}
+use Rattle.settings.specs.declared.mnemonic.Mnemonic.{Mnemonic}
+use Rattle.settings.specs.declared.mnemonic.Mnemonic.the-variants.{Setting as Of, Cf, Query as Asked, Com, Sav}
+use Rattle.settings.specs.declared.mnemonic.Named.{Named}
+use Rattle.settings.specs.declared.mnemonic.Named.the-variants.{Known, Unknown}
+use Rattle.settings.specs.declared.kinds.Kind.{Kind}
+use Rattle.settings.specs.declared.rows.Row.{Row}
+use Rattle.lines.specs.Splitting.{fields}
+use Rattle.lines.specs.Fields.{read}
+use Rattle.lines.specs.declared.verdict.Fault.the-variants.{Syntax, Parameter, Hardware}
+use Rattle.lines.specs.declared.verdict.Field.{Field}
+use Rattle.lines.specs.declared.verdict.Field.the-variants.{Held, Malformed, Faulty}
+use Rattle.lines.specs.declared.verdict.Verdict.{Verdict}
+use Rattle.lines.specs.declared.verdict.Verdict.the-variants.{Asks, Writes, Refused}
+
+-- each field read by its kind
+unfoldable pub readings : List Kind → List (List ℕ) → List Field
+readings [] fs = []
+readings (k ∷ ks) [] = []
+readings (k ∷ ks) (f ∷ fs) = read k f ∷ readings ks fs
+
+-- "form of every field, left to right, 0001", before what is said of their values
+abbrev pub formOr : Field → Verdict → Verdict
+formOr Malformed v = Refused Syntax
+formOr (Held c) v = v
+formOr (Faulty x) v = v
+
+unfoldable pub formed : List Field → Verdict → Verdict
+formed [] v = v
+formed (r ∷ rs) v = formOr r (formed rs v)
+
+-- "value of every field, left to right", before what the line would write
+abbrev pub valueOr : Field → Verdict → Verdict
+valueOr (Faulty x) v = Refused x
+valueOr (Held c) v = v
+valueOr Malformed v = v
+
+unfoldable pub valued : List Field → Verdict → Verdict
+valued [] v = v
+valued (r ∷ rs) v = valueOr r (valued rs v)
+
+-- the cells that the fields hold
+abbrev pub cellOf : Field → Threshold
+cellOf (Held c) = c
+cellOf Malformed = plain 0
+cellOf (Faulty x) = plain 0
+
+abbrev pub rowOf : List Threshold → Row
+rowOf cs = record { first = getD cs 0 (plain 0); second = getD cs 1 (plain 0); third = getD cs 2 (plain 0) }
+
+abbrev pub judgedFields : Mnemonic → List Field → Verdict
+judgedFields m rs = formed rs (valued rs (Writes m (rowOf (map cellOf rs))))
+
+-- "With no comma the line asks for the setting; only COM (0 to 2) and SAV (0 to 1) then have a default": "COM alone is 1", "SAV with 0 or nothing"
+abbrev pub alone : Mnemonic → Verdict
+alone (Of x) = Asks (Of x)
+alone (Cf k) = Asks (Cf k)
+alone (Asked q) = Asks (Asked q)
+alone Com = Writes Com (pairRow 1 0)
+alone Sav = Writes Sav (pairRow 0 0)
+
+-- "number of fields, 0001", then their form and their value
+unfoldable pub withFields : Model → Mnemonic → List (List ℕ) → Verdict
+withFields model m [] = alone m
+withFields model m (f ∷ fs) =
+    cond (eqb (length (f ∷ fs)) (length (kinds model m))) (judgedFields m (readings (kinds model m) (f ∷ fs))) (Refused Syntax)
+
+-- "mnemonic unknown .., 0001; PR2 or CF2 on a 361, 0100"
+abbrev pub named : Model → Named → List (List ℕ) → Verdict
+named model Unknown fs = Refused Syntax
+named model (Known m) fs = cond (ltb (channelOf m) (channels model)) (withFields model m fs) (Refused Hardware)
+
+-- the mnemonic ends at "a comma or the end"
+abbrev pub parted : Model → List (List ℕ) → Verdict
+parted model [] = Refused Syntax
+parted model (n ∷ fs) = named model (recognised model n) fs
+
+-- "bad or empty line, 0001", then the other tests in their order; a bad line holds nothing
+unfoldable pub judged : Model → List ℕ → Verdict
+judged model [] = Refused Syntax
+judged model (b ∷ line) = parted model (fields (b ∷ line))

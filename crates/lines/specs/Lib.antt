@@ -1,0 +1,5 @@
+pub mod Splitting
+pub mod Fields
+pub mod Judging
+pub mod Replies
+pub mod Walk

@@ -1,0 +1,38 @@
+-- The reply of each setting (01, "Settings": "commas between, then CR LF").
+use Prim.Native.Nat.{ℕ}
+use Prim.Native.Char.{code}
+use mathlib.Core.List.{List, [], _∷_, _++_}
+use mathlib.Core.Bool.{Bool, cond}
+use Rattle.numbers.specs.declared.threshold.Threshold.{Threshold}
+use Rattle.settings.specs.Kinds.{kinds}
+use Rattle.settings.specs.Rows.{cells}
+use Rattle.settings.specs.declared.model.Model.{Model}
+use Rattle.settings.specs.declared.mnemonic.Setting.{Setting}
+use Rattle.settings.specs.declared.mnemonic.Setting.the-variants.{Cal}
+use Rattle.settings.specs.declared.mnemonic.Mnemonic.the-variants.{Setting as Of}
+use Rattle.settings.specs.declared.kinds.Kind.{Kind}
+use Rattle.settings.specs.declared.settings.Settings.{Settings}
+use Rattle.lines.specs.Splitting.{joined}
+use Rattle.lines.specs.Fields.{write}
+
+-- each cell written by its kind
+abbrev pub texts : List Kind → List Threshold → List (List ℕ)
+texts [] cs = []
+texts (k ∷ ks) [] = []
+texts (k ∷ ks) (c ∷ cs) = write k c ∷ texts ks cs
+
+-- the cells that the model has of a setting, commas between
+unfoldable pub settingText : Model → Settings → Setting → List ℕ
+settingText model s x = joined (texts (kinds model (Of x)) (cells model s x))
+
+-- a comma and one cell more, where there is one
+abbrev pub more : Bool → Kind → Threshold → List ℕ
+more has kind cell = cond has (code "," ∷ write kind cell) []
+
+-- "CFx takes one factor and answers one per channel": those of CAL
+abbrev pub factorsText : Model → Settings → List ℕ
+factorsText model s = settingText model s Cal
+
+-- CR LF
+abbrev pub lineEnd : List ℕ
+lineEnd = 13 ∷ 10 ∷ []

@@ -1,0 +1,62 @@
+-- Facts that hold of every member of a list.
+use Prim.Native.Nat.{ℕ, zero, suc}
+use mathlib.Core.Path.{_≡_, refl}
+use mathlib.Core.List.{List, [], _∷_, map}
+use mathlib.Core.Bool.{Bool, true}
+use lib.ListN.{getD, take, drop}
+use Rattle.numbers.proofs.Cases.{and-true}
+use Rattle.settings.specs.Limits.{every}
+
+module _ {A : Type 0} where
+  -- P holds of every member
+  abbrev pub Each : (A → Type 0) → List A → Type 0
+  Each P [] = Unit {0}
+  Each P (x ∷ xs) = P x × Each P xs
+
+  pub each-map : (P Q : A → Type 0) → ((x : A) → P x → Q x) → (xs : List A) → Each P xs → Each Q xs
+  each-map P Q f [] p = tt
+  each-map P Q f (x ∷ xs) p = (f x (p .0), each-map P Q f xs (p .1))
+
+  pub each-both : (P Q R : A → Type 0) → ((x : A) → P x → Q x → R x) → (xs : List A) → Each P xs → Each Q xs → Each R xs
+  each-both P Q R f [] p q = tt
+  each-both P Q R f (x ∷ xs) p q = (f x (p .0) (q .0), each-both P Q R f xs (p .1) (q .1))
+
+  pub each-all : (P : A → Type 0) → ((x : A) → P x) → (xs : List A) → Each P xs
+  each-all P f [] = tt
+  each-all P f (x ∷ xs) = (f x, each-all P f xs)
+
+  pub each-take : (P : A → Type 0) (n : ℕ) (xs : List A) → Each P xs → Each P (take n xs)
+  each-take P zero xs p = tt
+  each-take P (suc n) [] p = tt
+  each-take P (suc n) (x ∷ xs) p = (p .0, each-take P n xs (p .1))
+
+  pub each-drop : (P : A → Type 0) (n : ℕ) (xs : List A) → Each P xs → Each P (drop n xs)
+  each-drop P zero xs p = p
+  each-drop P (suc n) [] p = tt
+  each-drop P (suc n) (x ∷ xs) p = each-drop P n xs (p .1)
+
+  pub each-cut : (P : A → Type 0) (n : ℕ) (xs : List A) → Each P (take n xs) → Each P (drop n xs) → Each P xs
+  each-cut P zero xs p q = q
+  each-cut P (suc n) [] p q = tt
+  each-cut P (suc n) (x ∷ xs) p q = (p .0, each-cut P n xs (p .1) q)
+
+  -- what holds of what stands for a missing member too holds at every place
+  pub each-at : (P : A → Type 0) (xs : List A) (d : A) → P d → Each P xs → (k : ℕ) → P (getD xs k d)
+  each-at P [] d p e k = p
+  each-at P (x ∷ xs) d p e zero = e .0
+  each-at P (x ∷ xs) d p e (suc k) = each-at P xs d p (e .1) k
+
+  -- the test over a list tells of each member, and the other way round
+  pub every-each : (p : A → Bool) (xs : List A) → every p xs ≡ true → Each (λ x. p x ≡ true) xs
+  unfolding every
+  every-each p [] e = tt
+  every-each p (x ∷ xs) e = let b = and-true (p x) (every p xs) e in (b .0, every-each p xs (b .1))
+
+  pub each-every : (p : A → Bool) (xs : List A) → Each (λ x. p x ≡ true) xs → every p xs ≡ true
+  unfolding every
+  each-every p [] e = refl
+  each-every p (x ∷ xs) e = rw (e .0) (each-every p xs (e .1))
+
+pub map-each : {A B : Type 0} (f g : A → B) (xs : List A) → map f xs ≡ map g xs → Each (λ x. f x ≡ g x) xs
+map-each f g [] e = tt
+map-each f g (x ∷ xs) e = (cc, map-each f g xs (cc))

@@ -1,0 +1,182 @@
+-- The sheet: it has every setting once, and its cells decide settings that are within their limits.
+use Prim.Native.Nat.{ℕ, zero, suc, _+_, _≤_, _<_}
+use mathlib.Core.Path.{_≡_, refl, sym, ap, _∙_, subst}
+use mathlib.Core.List.{List, [], _∷_}
+use mathlib.Core.Bool.{Bool, true, false, not, _&&_}
+use mathlib.Core.Logic.{_≢_, _⊎_, inl, inr, ⊎-elim}
+use native.Mathlib.Omega.{arith}
+use borrow.Author.Tests.{ltb-true, eqb-true, eqb-false, not-true}
+use lib.ListN.{length, getD, take, drop, length-take}
+use lib.Seq.{getD-take}
+use lib.Dec.{ltb, eqb}
+use Rattle.text.proofs.Tables.{listed as tableOf, tabled}
+use Rattle.numbers.specs.declared.threshold.Threshold.{Threshold}
+use Rattle.numbers.proofs.Cases.{true-or-false, and-true}
+use Rattle.settings.specs.Models.{defaults}
+use Rattle.settings.specs.Mnemonics.{sheet, sheetAt}
+use Rattle.settings.specs.Kinds.{whole, factor, perChannel, kinds, storedKinds, storedTable}
+use Rattle.settings.specs.Rows.{plain, row, listed, count, cells}
+use Rattle.settings.specs.Limits.{placeWithin, rowWithin, every, within}
+use Rattle.settings.specs.declared.model.Model.{Model}
+use Rattle.settings.specs.declared.model.Model.the-variants.{Tpg361, Tpg362}
+use Rattle.settings.specs.declared.mnemonic.Setting.{Setting}
+use Rattle.settings.specs.declared.mnemonic.Setting.the-variants.{Uni, Fil, Cal, Dcd, Sp, Stored}
+use Rattle.settings.specs.declared.mnemonic.Mnemonic.the-variants.{Setting as Of}
+use Rattle.settings.specs.declared.kinds.Kind.{Kind}
+use Rattle.settings.specs.declared.kinds.Kind.the-variants.{Threshold as Level}
+use Rattle.settings.specs.declared.rows.Row.{Row}
+use Rattle.settings.specs.declared.settings.Settings.{Settings}
+use Rattle.settings.proofs.Lists.{Each, each-map, each-both, each-all, each-take, each-drop, each-at, every-each, each-every}
+use Rattle.settings.proofs.Storing.{Holding, Shaped, rows-decide}
+use Rattle.settings.proofs.Storing.Holding.{uni, fil, cal, dcd, sp, kept}
+use Rattle.settings.proofs.Places.{cell, same-cell, rows-same, row-places}
+
+-- ---- the sheet's settings are those that the arrays hold
+
+held : Setting → Bool
+held Uni = true
+held Fil = true
+held Cal = true
+held Dcd = true
+held (Sp k) = ltb k 4
+held (Stored k) = ltb k 9
+
+held-holding : (x : Setting) → held x ≡ true → Holding x
+unfolding held
+held-holding Uni h = uni
+held-holding Fil h = fil
+held-holding Cal h = cal
+held-holding Dcd h = dcd
+held-holding (Sp k) h = sp k (ltb-true k 4 h)
+held-holding (Stored k) h = kept k (ltb-true k 9 h)
+
+pub sheet-holding : (model : Model) → Each Holding (sheet model)
+unfolding held every
+sheet-holding model = each-map (λ x. held x ≡ true) Holding held-holding (sheet model) (every-each held (sheet model) refl)
+
+-- the line of the sheet that a setting stands on
+abbrev line : Setting → ℕ
+line Uni = 0
+line Fil = 1
+line Cal = 2
+line Dcd = 3
+line (Sp k) = 4 + k
+line (Stored k) = 8 + k
+
+-- two tables of n entries that are the same
+same-table : {A : Type 0} (f g : ℕ → A) (n : ℕ) → tableOf f n 0 ≡ tableOf g n 0 → (k : ℕ) → k < n → f k ≡ g k
+same-table f g n e k h = tabled f n (tableOf g n 0) e k (g k) h ∙ sym (tabled g n (tableOf g n 0) refl k (g k) h)
+
+on-line : (model : Model) {x : Setting} → Holding x → sheetAt model (line x) ≡ x
+on-line model uni = refl
+on-line model fil = refl
+on-line model cal = refl
+on-line model dcd = refl
+on-line model (sp k h) = same-table (λ i. sheetAt model (4 + i)) Sp 4 refl k h
+on-line model (kept k h) = same-table (λ i. sheetAt model (8 + i)) Stored 9 refl k h
+
+-- what holds over the sheet holds of every setting
+pub on-sheet : (P : Setting → Type 0) (model : Model) → Each P (sheet model) → (x : Setting) → Holding x → P x
+on-sheet P model e x h = subst P (on-line model h) (each-at P (sheet model) Uni (e .0) e (line x))
+
+-- ---- no setting twice
+
+abbrev pub Distinct : List Setting → Type 0
+Distinct [] = Unit {0}
+Distinct (x ∷ xs) = Each (λ y. x ≢ y) xs × Distinct xs
+
+unlike : Setting → Setting → Bool
+unlike x y = not (eqb (line x) (line y))
+
+unfoldable differing : List Setting → Bool
+differing [] = true
+differing (x ∷ xs) = every (unlike x) xs && differing xs
+
+unlike-apart : (x y : Setting) → unlike x y ≡ true → x ≢ y
+unfolding unlike
+unlike-apart x y e q = eqb-false (line x) (line y) (not-true (eqb (line x) (line y)) e) (ap line q)
+
+all-apart : (xs : List Setting) → differing xs ≡ true → Distinct xs
+unfolding differing
+all-apart [] e = tt
+all-apart (x ∷ xs) e =
+    let b = and-true (every (unlike x) xs) (differing xs) e in
+    (each-map (λ y. unlike x y ≡ true) (λ y. x ≢ y) (unlike-apart x) xs (every-each (unlike x) xs (b .0)), all-apart xs (b .1))
+
+pub sheet-distinct : (model : Model) → Distinct (sheet model)
+unfolding differing every unlike
+sheet-distinct model = all-apart (sheet model) refl
+
+-- those behind a cut are apart from those before it
+pub distinct-cut : (n : ℕ) (xs : List Setting) → Distinct xs → Each (λ y. Each (λ x. y ≢ x) (take n xs)) (drop n xs)
+distinct-cut zero xs d = each-all _ (λ y. tt) xs
+distinct-cut (suc n) [] d = tt
+distinct-cut (suc n) (x ∷ xs) d =
+    each-both (λ y. x ≢ y) (λ y. Each (λ z. y ≢ z) (take n xs)) _ (λ y p q. ((λ e. p (sym e)), q)) (drop n xs)
+    (each-drop _ n xs (d .0)) (distinct-cut n xs (d .1))
+
+pub distinct-take : (n : ℕ) (xs : List Setting) → Distinct xs → Distinct (take n xs)
+distinct-take zero xs d = tt
+distinct-take (suc n) [] d = tt
+distinct-take (suc n) (x ∷ xs) d = (each-take _ n xs (d .0), distinct-take n xs (d .1))
+
+-- two settings are the same or not, as are their lines
+pub same-or-apart : (model : Model) {x y : Setting} → Holding x → Holding y → (y ≡ x) ⊎ (y ≢ x)
+same-or-apart model {x} {y} h g =
+    ⊎-elim
+    (λ (t : eqb (line y) (line x) ≡ true). inl (sym (on-line model g) ∙ ap (sheetAt model) (eqb-true (line y) (line x) t) ∙ on-line model h))
+    (λ (f : eqb (line y) (line x) ≡ false). inr (λ e. eqb-false (line y) (line x) f (ap line e)))
+    (true-or-false (eqb (line y) (line x)))
+
+-- ---- fields
+
+-- one field for each channel
+pub channel-kinds : (P : List Kind → Type 0) (k : Kind) → P (k ∷ []) → P (k ∷ k ∷ []) → (model : Model) → P (perChannel model k)
+channel-kinds P k one two Tpg361 = one
+channel-kinds P k one two Tpg362 = two
+
+pub few : (model : Model) (x : Setting) → count model x ≤ 3
+unfolding storedKinds
+few model Uni = omega arith
+few model Fil = channel-kinds (λ ks. length ks ≤ 3) (whole 0 3) (omega arith) (omega arith) model
+few model Cal = channel-kinds (λ ks. length ks ≤ 3) factor (omega arith) (omega arith) model
+few model Dcd = channel-kinds (λ ks. length ks ≤ 3) (whole 0 4) (omega arith) (omega arith) model
+few model (Sp k) = omega arith
+few model (Stored k) = omega (arith, length-take 1 (drop k (storedTable model)))
+
+-- ---- limits
+
+module _ (model : Model) (s : Settings) where
+  -- settings within their limits have each row within its own, and the other way round
+  pub within-rows : within model s ≡ true → (x : Setting) → Holding x → rowWithin model s x ≡ true
+  unfolding within
+  within-rows w = on-sheet (λ x. rowWithin model s x ≡ true) model (every-each (rowWithin model s) (sheet model) w)
+
+  pub rows-within : ((x : Setting) → Holding x → rowWithin model s x ≡ true) → within model s ≡ true
+  unfolding within
+  rows-within w = each-every (rowWithin model s) (sheet model) (each-map Holding (λ x. rowWithin model s x ≡ true) w (sheet model) (sheet-holding model))
+
+-- cells beside one default are the same if they are so where there is a field
+same-placed : (t : Bool) (k : Kind) (c d e : Threshold) → placeWithin t k c e ≡ true → placeWithin t k d e ≡ true → (t ≡ true → c ≡ d) → c ≡ d
+same-placed true k c d e p q f = f refl
+same-placed false k c d e p q f = same-cell c e p ∙ sym (same-cell d e q)
+
+-- a cell that is taken is the same if all that are taken are
+taken : (n i : ℕ) (r q : Row) → take n (listed r) ≡ take n (listed q) → i < n → cell r i ≡ cell q i
+taken n i r q e h =
+    sym (getD-take n (listed r) i (plain 0) h) ∙ ap (λ (l : List Threshold). getD l i (plain 0)) e ∙ getD-take n (listed q) i (plain 0) h
+
+-- law (d) over a model's sheet: where the model has no field both have the default
+pub sheet-decide : (model : Model) (a b : Settings) → Shaped a → Shaped b → within model a ≡ true → within model b ≡ true
+    → Each (λ x. cells model a x ≡ cells model b x) (sheet model) → a ≡ b
+sheet-decide model a b sa sb wa wb e = rows-decide a b sa sb agree
+  where
+    agree : (x : Setting) → Holding x → row a x ≡ row b x
+    agree x h =
+        let ks = kinds model (Of x) in
+        let d = row (defaults model) x in
+        rows-same (row a x) (row b x) (λ i l.
+        same-placed (ltb i (length ks)) (getD ks i Level) (cell (row a x) i) (cell (row b x) i) (cell d i)
+        (row-places ks (row a x) d (within-rows model a wa x h) i l)
+        (row-places ks (row b x) d (within-rows model b wb x h) i l)
+        (λ t. taken (count model x) i (row a x) (row b x) (on-sheet (λ y. cells model a y ≡ cells model b y) model e x h) (ltb-true i (count model x) t)))

@@ -1,0 +1,75 @@
+-- What is found from the place i on is what is found in all.
+use Prim.Native.Nat.{ℕ, _≤_, _<_, _-_}
+use mathlib.Core.Path.{_≡_, refl, sym, ap, _∙_}
+use mathlib.Core.List.{List, [], _∷_}
+use lib.ListN.{length, drop}
+use Rattle.settings.specs.Mnemonics.{known, recognised, found}
+use Rattle.settings.specs.declared.mnemonic.Setting.the-variants.{Uni}
+use Rattle.settings.specs.declared.mnemonic.Mnemonic.the-variants.{Setting as Of}
+use Rattle.settings.specs.declared.mnemonic.Named.the-variants.{Known}
+use Rattle.settings.proofs.Names.{found-hit, found-miss, found-end, known-length}
+use borrow.Author.Needs.{needs}
+use native.Mathlib.Omega.{arith}
+use Rattle.settings.proofs.model.Model.named.Statement.{statement}
+use Rattle.settings.proofs.model.Model.named.Tie as tie
+
+abbrev Inv-loop : tie.InvT-loop
+Inv-loop self a b c i₀ i = (i ≤ 28) × (found (a ∷ b ∷ c ∷ []) (drop i (known self)) ≡ recognised self (a ∷ b ∷ c ∷ []))
+
+abbrev μ-loop : tie.MeasureT-loop
+μ-loop self a b c i₀ i = 28 - i
+
+loop-holds : tie.Need-loop-holds Inv-loop μ-loop
+unfolding recognised
+loop-holds c = (omega arith, refl)
+
+spells-requires : tie.Need-spells-requires Inv-loop μ-loop
+spells-requires c κs = search needs
+
+known-at-requires : tie.Need-known-at-requires Inv-loop μ-loop
+known-at-requires c κs = search needs
+
+returns : tie.Need-returns Inv-loop μ-loop
+returns c =
+    let l = c .before .before .before .before .loop in
+    let a = c .before .before .before .before .before .args in
+    let w : List ℕ = a .a ∷ a .b ∷ a .c ∷ [] in
+    let n : l .i < length (known (a .self)) = omega (arith, known-length (a .self)) in
+    ap Known (c .known-at .ensures)
+    ∙ sym (found-hit w (known (a .self)) (l .i) (Of Uni) n (sym (c .before .before .spells .ensures) ∙ c .before .if1 .taken)) ∙ l .inv .1
+
+add-i : tie.Need-add-i Inv-loop μ-loop
+add-i c = search needs
+
+loop-less : tie.Need-loop-less Inv-loop μ-loop
+loop-less c = search needs
+
+loop-again : tie.Need-loop-again Inv-loop μ-loop
+loop-again c =
+    let l = c .before .before .before .loop in
+    let a = c .before .before .before .before .args in
+    let w : List ℕ = a .a ∷ a .b ∷ a .c ∷ [] in
+    let n : l .i < length (known (a .self)) = omega (arith, known-length (a .self)) in
+    (omega arith, sym (found-miss w (known (a .self)) (l .i) (Of Uni) n (sym (c .before .spells .ensures) ∙ c .if1 .left)) ∙ l .inv .1)
+
+returns-2 : tie.Need-returns-2 Inv-loop μ-loop
+returns-2 c =
+    let l = c .before .loop in
+    let a = c .before .before .args in
+    let n : length (known (a .self)) ≤ l .i = omega (arith, known-length (a .self)) in
+    sym (found-end (a .a ∷ a .b ∷ a .c ∷ []) (known (a .self)) (l .i) (Of Uni) n) ∙ l .inv .1
+
+pub named-spec : {M : Type 1} → statement M
+named-spec =
+    tie.close
+    (tie.spec
+    Inv-loop
+    μ-loop
+    loop-holds
+    spells-requires
+    known-at-requires
+    returns
+    add-i
+    loop-less
+    loop-again
+    returns-2)

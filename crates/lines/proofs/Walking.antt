@@ -1,0 +1,273 @@
+-- The fields of a line one after the other, as the code walks them, are those of the line split at its commas.
+use Prim.Native.Nat.{ℕ, zero, suc, _+_, _-_, _≤_, _<_}
+use Prim.Native.Char.{code}
+use mathlib.Core.Path.{_≡_, refl, sym, ap, _∙_}
+use mathlib.Core.List.{List, [], _∷_}
+use mathlib.Core.Bool.{Bool, true, false, cond}
+use native.Mathlib.Omega.{arith}
+use native.Mathlib.Numerals.{add-one}
+use borrow.Author.Tests.{eq-eqb, ne-eqb, eqb-true, eqb-false, lt-ltb, le-ltb, ltb-true, ltb-false}
+use lib.ListN.{length, getD, take, drop, drop-of-length-le, length-drop}
+use lib.Seq.{drop-cons, drop-drop}
+use lib.Dec.{eqb, ltb}
+use Rattle.numerals.specs.Digits.{part}
+use Rattle.numbers.proofs.Cases.{cond-cases}
+use Rattle.numbers.specs.declared.threshold.Threshold.{Threshold}
+use Rattle.settings.specs.Models.{channels}
+use Rattle.settings.specs.Mnemonics.{recognised, channelOf}
+use Rattle.settings.specs.Kinds.{kinds, packed, storedKinds}
+use Rattle.settings.specs.Rows.{plain}
+use Rattle.settings.specs.declared.model.Model.{Model}
+use Rattle.settings.specs.declared.mnemonic.Mnemonic.{Mnemonic}
+use Rattle.settings.specs.declared.mnemonic.Mnemonic.the-variants.{Setting as Of, Cf, Query as Asked, Com, Sav}
+use Rattle.settings.specs.declared.mnemonic.Named.{Named}
+use Rattle.settings.specs.declared.mnemonic.Named.the-variants.{Known, Unknown}
+use Rattle.settings.specs.declared.kinds.Kind.{Kind}
+use Rattle.settings.specs.declared.kinds.Kind.the-variants.{Threshold as Level}
+use Rattle.settings.specs.declared.kinds.Kinds.{Kinds}
+use Rattle.settings.proofs.Names.{not-three}
+use Rattle.settings.proofs.Sheets.{few}
+use Rattle.lines.specs.Splitting.{fields, onFirst, word, behind}
+use Rattle.lines.specs.Fields.{read}
+use Rattle.lines.specs.Judging.{readings, formed, valued, judgedFields, alone, withFields, named, parted, judged}
+use Rattle.lines.specs.Walk.{headField, beyond, Taken, knownLine}
+use Rattle.lines.specs.declared.verdict.Fault.the-variants.{Syntax, Hardware}
+use Rattle.lines.specs.declared.verdict.Field.{Field}
+use Rattle.lines.specs.declared.verdict.Field.the-variants.{Held}
+use Rattle.lines.specs.declared.verdict.Verdict.{Verdict}
+use Rattle.lines.specs.declared.verdict.Verdict.the-variants.{Refused}
+use Rattle.lines.specs.declared.fields.Got.{Got}
+
+-- ---- a first field, and the others
+
+first-count : (b : ℕ) (fs : List (List ℕ)) → 1 ≤ length fs → length (onFirst b fs) ≡ length fs
+first-count b [] h = absurd (omega arith)
+first-count b (f ∷ fs) h = refl
+
+pub some-fields : (t : List ℕ) → 1 ≤ length (fields t)
+unfolding fields
+some-fields [] = omega arith
+some-fields (b ∷ s) =
+    cond-cases (λ fs. 1 ≤ length fs) (eqb b 44) ([] ∷ fields s) (onFirst b (fields s)) (λ _. omega arith)
+    (λ _. rw (first-count b (fields s) (some-fields s)) (some-fields s))
+
+-- without a comma there is one field; with one, the word before it and the fields behind it
+split-by : (t : Bool) (b : ℕ) (s w : List ℕ) (fs : List (List ℕ)) → (length w ≡ length s → fs ≡ w ∷ []) → (length w < length s → fs ≡ w ∷ fields (drop (suc (length w)) s))
+    → (length (cond t [] (b ∷ w)) ≡ suc (length s) → cond t ([] ∷ fields s) (onFirst b fs) ≡ cond t [] (b ∷ w) ∷ [])
+    × (length (cond t [] (b ∷ w)) < suc (length s) → cond t ([] ∷ fields s) (onFirst b fs) ≡ cond t [] (b ∷ w) ∷ fields (drop (length (cond t [] (b ∷ w))) s))
+split-by true b s w fs p q = ((λ e. absurd (omega arith)), (λ h. refl))
+split-by false b s w fs p q = ((λ e. ap (onFirst b) (p (omega arith))), (λ h. ap (onFirst b) (q (omega arith))))
+
+split : (s : List ℕ) → (length (word s) ≡ length s → fields s ≡ word s ∷ []) × (length (word s) < length s → fields s ≡ word s ∷ fields (behind s))
+unfolding word fields
+split [] = ((λ e. refl), (λ h. absurd (omega arith)))
+split (b ∷ s) = split-by (eqb b 44) b s (word s) (fields s) (split s .0) (split s .1)
+
+-- the word is the beginning of the line
+word-is : (s : List ℕ) → (length (word s) ≤ length s) × (word s ≡ take (length (word s)) s)
+unfolding word
+word-is [] = (omega arith, refl)
+word-is (b ∷ s) =
+    cond-cases (λ w. (length w ≤ suc (length s)) × (w ≡ take (length w) (b ∷ s))) (eqb b 44) [] (b ∷ word s) (λ _. (omega arith, refl))
+    (λ _. (omega (arith, word-is s .0), ap (λ (l : List ℕ). b ∷ l) (word-is s .1)))
+
+word-short : (s : List ℕ) → length (word s) ≤ length s
+word-short s = word-is s .0
+
+-- more than one field: there is a comma; one only: there is none
+next-of : (s : List ℕ) → 2 ≤ length (fields s) → fields s ≡ word s ∷ fields (behind s)
+next-of s h = by (eqb (length (word s)) (length s)) refl
+  where
+    by : (t : Bool) → eqb (length (word s)) (length s) ≡ t → fields s ≡ word s ∷ fields (behind s)
+    by true e = absurd (omega (arith, ap length (split s .0 (eqb-true (length (word s)) (length s) e))))
+    by false e = split s .1 (omega (arith, word-short s, eqb-false (length (word s)) (length s) e))
+
+last-of : (s : List ℕ) → length (fields s) ≡ 1 → fields s ≡ word s ∷ []
+last-of s h = by (eqb (length (word s)) (length s)) refl
+  where
+    by : (t : Bool) → eqb (length (word s)) (length s) ≡ t → fields s ≡ word s ∷ []
+    by true e = split s .0 (eqb-true (length (word s)) (length s) e)
+    by false e =
+        absurd (omega (arith, some-fields (behind s), ap length (split s .1 (omega (arith, word-short s, eqb-false (length (word s)) (length s) e)))))
+
+-- ---- one byte more
+
+module _ (i : ℕ) (s : List ℕ) where
+  pub word-here : i < length s → getD s i 0 ≡ 44 → length (word (drop i s)) ≡ 0
+  unfolding word
+  word-here h e = rw (drop-cons s i 0 h, eq-eqb _ _ e)
+
+  pub word-more : i < length s → (getD s i 0 ≡ 44 → ⊥) → length (word (drop i s)) ≡ suc (length (word (drop (i + 1) s)))
+  unfolding word
+  word-more h e = rw (add-one i, drop-cons s i 0 h, ne-eqb _ _ e)
+
+  pub word-end : length s ≤ i → length (word (drop i s)) ≡ 0
+  unfolding word
+  word-end h = rw (drop-of-length-le s h)
+
+  pub fields-here : i < length s → getD s i 0 ≡ 44 → length (fields (drop i s)) ≡ suc (length (fields (drop (i + 1) s)))
+  unfolding fields
+  fields-here h e = rw (add-one i, drop-cons s i 0 h, eq-eqb _ _ e)
+
+  pub fields-on : i < length s → (getD s i 0 ≡ 44 → ⊥) → length (fields (drop i s)) ≡ length (fields (drop (i + 1) s))
+  unfolding fields
+  fields-on h e = rw (add-one i, drop-cons s i 0 h, ne-eqb _ _ e) (first-count (getD s i 0) (fields (drop (suc i) s)) (some-fields (drop (suc i) s)))
+
+  pub fields-end : length s ≤ i → length (fields (drop i s)) ≡ 1
+  unfolding fields
+  fields-end h = rw (drop-of-length-le s h)
+
+-- ---- the place of the next field
+
+module _ (s : List ℕ) (a : ℕ) (h : a ≤ length s) where
+  pub end-inside : a + length (word (drop a s)) ≤ length s
+  end-inside = omega (arith, word-short (drop a s), length-drop a s)
+
+  field-is : part a (a + length (word (drop a s))) s ≡ word (drop a s)
+  field-is = let e : a + length (word (drop a s)) - a ≡ length (word (drop a s)) = omega arith in rw e (sym (word-is (drop a s) .1))
+
+  next-is : drop (a + length (word (drop a s)) + 1) s ≡ behind (drop a s)
+  next-is =
+      let e : a + suc (length (word (drop a s))) ≡ a + length (word (drop a s)) + 1 = omega arith in
+      sym (drop-drop (suc (length (word (drop a s)))) a s ∙ ap (λ (n : ℕ). drop n s) e)
+
+  end-is : length s ≤ a + length (word (drop a s)) → drop (a + length (word (drop a s))) s ≡ behind (drop a s)
+  end-is l =
+      drop-of-length-le s l ∙ sym (drop-of-length-le (drop a s) {i = suc (length (word (drop a s)))} (omega (arith, length-drop a s)))
+
+module _ (has : Bool) (k : Kind) (s : List ℕ) (a : ℕ) (h : a ≤ length s) where
+  pub taken-not : has ≡ false → (c : Threshold) → c ≡ plain 0 → Taken has k s a (record { field = Held c; next = a })
+  taken-not o c e = record { field = rw (o, e); rest = rw o; inside = h }
+
+  module _ (o : has ≡ true) (e : ℕ) (f : Field) (p : e ≡ a + length (word (drop a s))) (q : f ≡ read k (part a e s)) where
+    field-read : f ≡ headField has k (drop a s)
+    field-read = rw o (q ∙ ap (read k) (ap (λ (n : ℕ). part a n s) p ∙ field-is s a h))
+
+    pub taken-next : e < length s → Taken has k s a (record { field = f; next = e + 1 })
+    taken-next l = record { field = field-read; rest = rw o (ap (λ (n : ℕ). drop (n + 1) s) p ∙ next-is s a h); inside = omega arith }
+
+    pub taken-last : length s ≤ e → Taken has k s a (record { field = f; next = e })
+    taken-last l = record {
+      field = field-read;
+      rest = rw o (ap (λ (n : ℕ). drop n s) p ∙ end-is s a h (omega arith));
+      inside = omega (arith, end-inside s a h);
+    }
+
+-- ---- up to three fields, one after the other
+
+-- the fields that are read from what is left of a line, with nothing where there is no kind
+abbrev walked : List Kind → List ℕ → List Field
+walked ks s =
+    let n = length ks in
+    let t = beyond (ltb 0 n) s in
+    headField (ltb 0 n) (getD ks 0 Level) s ∷ headField (ltb 1 n) (getD ks 1 Level) t ∷ headField (ltb 2 n) (getD ks 2 Level) (beyond (ltb 1 n) t) ∷ []
+
+-- reading them so is reading the list of fields
+walked-is : (m : Mnemonic) (ks : List Kind) (s : List ℕ) → length (fields s) ≡ length ks → length ks ≤ 3
+    → judgedFields m (walked ks s) ≡ judgedFields m (readings ks (fields s))
+unfolding readings formed valued
+walked-is m [] s e h = absurd (omega (arith, some-fields s))
+walked-is m (k ∷ []) s e h = rw (last-of s e)
+walked-is m (k ∷ l ∷ []) s e h =
+    let a = next-of s (omega arith) in
+    let b = last-of (behind s) (omega (arith, ap length a)) in
+    rw (a, b)
+walked-is m (k ∷ l ∷ n ∷ []) s e h =
+    let a = next-of s (omega arith) in
+    let b = next-of (behind s) (omega (arith, ap length a)) in
+    let c = last-of (behind (behind s)) (omega (arith, ap length a, ap length b)) in
+    rw (a, b, c)
+walked-is m (k ∷ l ∷ n ∷ o ∷ ks) s e h = absurd (omega arith)
+
+walked-by : (ks : List Kind) (s : List ℕ) (a : ℕ) (x y z : Got)
+    → Taken (ltb 0 (length ks)) (getD ks 0 Level) s a x → Taken (ltb 1 (length ks)) (getD ks 1 Level) s (x .next) y
+    → Taken (ltb 2 (length ks)) (getD ks 2 Level) s (y .next) z
+    → x .field ∷ y .field ∷ z .field ∷ [] ≡ walked ks (drop a s)
+walked-by ks s a x y z p q r = rw (p .field, q .field, r .field, q .rest, p .rest)
+
+judged-by : (model : Model) (m : Mnemonic) (fs : List (List ℕ)) → 1 ≤ length fs → length fs ≡ length (kinds model m)
+    → judgedFields m (readings (kinds model m) fs) ≡ withFields model m fs
+unfolding withFields
+judged-by model m [] h e = absurd (omega arith)
+judged-by model m (f ∷ fs) h e = rw (eq-eqb (length (f ∷ fs)) (length (kinds model m)) e)
+
+wrong-by : (model : Model) (m : Mnemonic) (fs : List (List ℕ)) → 1 ≤ length fs → (length fs ≡ length (kinds model m) → ⊥) → Refused Syntax ≡ withFields model m fs
+unfolding withFields
+wrong-by model m [] h e = absurd (omega arith)
+wrong-by model m (f ∷ fs) h e = rw (ne-eqb (length (f ∷ fs)) (length (kinds model m)) e)
+
+few-kinds : (model : Model) (m : Mnemonic) → length (kinds model m) ≤ 3
+few-kinds model (Of x) = few model x
+few-kinds model (Cf k) = omega arith
+few-kinds model (Asked q) = omega arith
+few-kinds model Com = omega arith
+few-kinds model Sav = omega arith
+
+module _ (model : Model) (m : Mnemonic) (ks : Kinds) (e : ks ≡ packed (kinds model m)) (s : List ℕ) (a : ℕ) where
+  pub fields-judged : (x y z : Got) → length (fields (drop a s)) ≡ ks .count → Taken (ltb 0 (ks .count)) (ks .first) s a x
+      → Taken (ltb 1 (ks .count)) (ks .second) s (x .next) y → Taken (ltb 2 (ks .count)) (ks .third) s (y .next) z
+      → judgedFields m (x .field ∷ y .field ∷ z .field ∷ []) ≡ withFields model m (fields (drop a s))
+  fields-judged x y z n p q r =
+      let c : length (fields (drop a s)) ≡ length (kinds model m) = n ∙ ap (λ (k : Kinds). k .count) e in
+      ap (judgedFields m) (walked-by (kinds model m) s a x y z (rw e at p) (rw e at q) (rw e at r))
+      ∙ walked-is m (kinds model m) (drop a s) c (few-kinds model m)
+      ∙ judged-by model m (fields (drop a s)) (some-fields (drop a s)) c
+
+  pub fields-wrong : (length (fields (drop a s)) ≡ ks .count → ⊥) → Refused Syntax ≡ withFields model m (fields (drop a s))
+  fields-wrong n = wrong-by model m (fields (drop a s)) (some-fields (drop a s)) (λ c. n (c ∙ sym (ap (λ (k : Kinds). k .count) e)))
+
+-- ---- a whole line
+
+module _ (model : Model) (m : Mnemonic) (s : List ℕ) (e : ℕ) where
+  pub known-more : channelOf m < channels model → e < length s → withFields model m (fields (drop (e + 1) s)) ≡ knownLine model m s e
+  unfolding knownLine
+  known-more p h = rw (lt-ltb (channelOf m) (channels model) p, lt-ltb e (length s) h)
+
+  pub known-alone : channelOf m < channels model → length s ≤ e → alone m ≡ knownLine model m s e
+  unfolding knownLine
+  known-alone p h = rw (lt-ltb (channelOf m) (channels model) p, le-ltb e (length s) h)
+
+  pub known-not : channels model ≤ channelOf m → Refused Hardware ≡ knownLine model m s e
+  unfolding knownLine
+  known-not p = rw (le-ltb (channelOf m) (channels model) p)
+
+module _ (model : Model) where
+  -- an empty line has no known mnemonic, so the first test needs no code of its own
+  first-field : (s : List ℕ) → judged model s ≡ named model (recognised model (word s)) (drop 1 (fields s))
+  unfolding judged word fields
+  first-field [] = sym (rw (not-three model [] (λ e. omega arith)))
+  first-field (b ∷ s) = by (eqb (length (word (b ∷ s))) (length (b ∷ s))) refl
+    where
+      by : (t : Bool) → eqb (length (word (b ∷ s))) (length (b ∷ s)) ≡ t
+          → parted model (fields (b ∷ s)) ≡ named model (recognised model (word (b ∷ s))) (drop 1 (fields (b ∷ s)))
+      by true e = rw (split (b ∷ s) .0 (eqb-true (length (word (b ∷ s))) (length (b ∷ s)) e))
+      by false e = rw (split (b ∷ s) .1 (omega (arith, word-short (b ∷ s), eqb-false (length (word (b ∷ s))) (length (b ∷ s)) e)))
+
+  module _ (s : List ℕ) where
+    pub line-unknown : recognised model (word s) ≡ Unknown → Refused Syntax ≡ judged model s
+    line-unknown p = sym (first-field s ∙ ap (λ (c : Named). named model c (drop 1 (fields s))) p)
+
+    pub line-known : (m : Mnemonic) → recognised model (word s) ≡ Known m → (e : ℕ) → e ≡ length (word s) → knownLine model m s e ≡ judged model s
+    unfolding knownLine withFields
+    line-known m p e q = sym (first-field s ∙ ap (λ (c : Named). named model c (drop 1 (fields s))) p ∙ by (ltb e (length s)) refl)
+      where
+        by : (t : Bool) → ltb e (length s) ≡ t → cond (ltb (channelOf m) (channels model)) (withFields model m (drop 1 (fields s))) (Refused Hardware)
+            ≡ cond (ltb (channelOf m) (channels model)) (cond t (withFields model m (fields (drop (e + 1) s))) (alone m)) (Refused Hardware)
+        by true l =
+            let h = ltb-true e (length s) l in
+            let n : suc (length (word s)) ≡ e + 1 = omega arith in
+            rw (split s .1 (omega arith)) (ap (λ (k : ℕ). cond (ltb (channelOf m) (channels model)) (withFields model m (fields (drop k s))) (Refused Hardware)) n)
+        by false l = let h = ltb-false e (length s) l in rw (split s .0 (omega (arith, word-short s)))
+
+-- ---- the mnemonic at the front of a line
+
+-- what stands before the first comma
+pub word-front : (s : List ℕ) (e : ℕ) → e ≡ length (word s) → take e s ≡ word s
+word-front s e q = rw q (sym (word-is s .1))
+
+-- three bytes of it are the word
+pub three-front : (s : List ℕ) → 3 ≤ length s → getD s 0 0 ∷ getD s 1 0 ∷ getD s 2 0 ∷ [] ≡ take 3 s
+three-front [] h = absurd (omega arith)
+three-front (x ∷ []) h = absurd (omega arith)
+three-front (x ∷ y ∷ []) h = absurd (omega arith)
+three-front (x ∷ y ∷ z ∷ s) h = refl

@@ -1,5 +1,5 @@
 -- The fields of a line one after the other, as the code walks them, are those of the line split at its commas.
-use Prim.Native.Nat.{ℕ, zero, suc, _+_, _-_, _≤_, _<_}
+use Prim.Native.Nat.{ℕ, suc, _+_, _-_, _≤_, _<_}
 use Prim.Native.Char.{code}
 use mathlib.Core.Path.{_≡_, refl, sym, ap, _∙_}
 use mathlib.Core.List.{List, [], _∷_}
@@ -15,7 +15,7 @@ use Rattle.numbers.proofs.Cases.{cond-cases}
 use Rattle.numbers.specs.declared.threshold.Threshold.{Threshold}
 use Rattle.settings.specs.Models.{channels}
 use Rattle.settings.specs.Mnemonics.{recognised, channelOf}
-use Rattle.settings.specs.Kinds.{kinds, packed, storedKinds}
+use Rattle.settings.specs.Kinds.{kinds, packed}
 use Rattle.settings.specs.Rows.{plain}
 use Rattle.settings.specs.declared.model.Model.{Model}
 use Rattle.settings.specs.declared.mnemonic.Mnemonic.{Mnemonic}
@@ -34,7 +34,6 @@ use Rattle.lines.specs.Walk.{headField, beyond, Taken, knownLine}
 use Rattle.lines.specs.declared.verdict.Fault.the-variants.{Syntax, Hardware}
 use Rattle.lines.specs.declared.verdict.Field.{Field}
 use Rattle.lines.specs.declared.verdict.Field.the-variants.{Held}
-use Rattle.lines.specs.declared.verdict.Verdict.{Verdict}
 use Rattle.lines.specs.declared.verdict.Verdict.the-variants.{Refused}
 use Rattle.lines.specs.declared.fields.Got.{Got}
 

@@ -18,7 +18,7 @@ use Rattle.settings.specs.declared.kinds.Kind.{Kind}
 use Rattle.settings.specs.declared.rows.Row.{Row}
 use Rattle.lines.specs.Splitting.{fields}
 use Rattle.lines.specs.Fields.{read}
-use Rattle.lines.specs.declared.verdict.Fault.the-variants.{Syntax, Parameter, Hardware}
+use Rattle.lines.specs.declared.verdict.Fault.the-variants.{Syntax, Hardware}
 use Rattle.lines.specs.declared.verdict.Field.{Field}
 use Rattle.lines.specs.declared.verdict.Field.the-variants.{Held, Malformed, Faulty}
 use Rattle.lines.specs.declared.verdict.Verdict.{Verdict}

@@ -12,10 +12,8 @@ use crate::fields::take_field;
 use crate::verdict::Fault;
 use crate::verdict::Verdict;
 use crate::verdict::conclude;
-use settings::kinds::shape;
 use settings::mnemonic::Mnemonic;
 use settings::mnemonic::Named;
-use settings::mnemonic::channel_of;
 use settings::model::Model;
 use settings::rows::pair_row;
 
@@ -24,7 +22,7 @@ fn judge_fields(model: Model, m: Mnemonic, s: &[u8], a: usize) -> Verdict
     requires { ⌜ a ≤ length (now s) ⌝ }
     ensures { λ r. ⌜ r ≡ withFields model m (fields (drop a (now (s .entry)))) ⌝ }
 {
-    let ks = shape(model, m);
+    let ks = model.shape(m);
     let n = ks.count;
     if count_fields(s, a) == n {
         let first = ks.first;
@@ -61,7 +59,7 @@ fn judge_known(model: Model, m: Mnemonic, s: &[u8], e: usize) -> Verdict
     requires { ⌜ e ≤ length (now s) ⌝ }
     ensures { λ r. ⌜ r ≡ knownLine model m (now (s .entry)) e ⌝ }
 {
-    let channel = channel_of(m) as usize;
+    let channel = m.channel() as usize;
     if channel < model.channels() {
         if e < s.len() {
             return judge_fields(model, m, s, e + 1);

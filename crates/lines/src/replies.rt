@@ -4,10 +4,9 @@ ghost use mathlib.Core.List.{_++_};
 ghost use Rattle.text.specs.Text.{empty, puts};
 ghost use Rattle.lines.specs.Fields.{write};
 ghost use Rattle.lines.specs.Replies.{more, settingText, lineEnd};
-use numerals::writing::write_threshold;
 use numbers::threshold::Threshold;
+use numerals::writing::write_threshold;
 use settings::kinds::Kind;
-use settings::kinds::shape;
 use settings::mnemonic::Mnemonic;
 use settings::mnemonic::Setting;
 use settings::model::Model;
@@ -38,7 +37,7 @@ fn write_more(t: Text, has: bool, kind: Kind, cell: Threshold) -> Text
 fn write_setting(t: Text, model: Model, s: Settings, x: Setting) -> Text
     ensures { λ r. ⌜ r ≡ puts t (settingText model s x) ⌝ }
 {
-    let ks = shape(model, Mnemonic::Setting(x));
+    let ks = model.shape(Mnemonic::Setting(x));
     let n = ks.count;
     let first = ks.first;
     let second = ks.second;

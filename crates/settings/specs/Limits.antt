@@ -1,11 +1,10 @@
 -- The limits of settings on a model (01, "Readings, switching, streaming": "every value above in range, on a 361
 -- channel-2 cells at their defaults and no channel-2 choice").
-use Prim.Native.Nat.{ℕ}
 use mathlib.Core.List.{List, [], _∷_}
 use mathlib.Core.Bool.{Bool, true, cond, _&&_}
 use lib.ListN.{length, getD}
 use lib.Dec.{leb, ltb, eqb}
-use lib.IntN.{ℤ, pos}
+use lib.IntN.{pos}
 use Rattle.numbers.specs.Numbers.{between, withinStops}
 use Rattle.numbers.specs.declared.threshold.Threshold.{Threshold}
 use Rattle.settings.specs.Models.{defaults}

@@ -5,7 +5,6 @@ use mathlib.Core.Bool.{Bool}
 use lib.Dec.{eqb}
 use lib.IntN.{negsuc}
 use Rattle.text.specs.Text.{ascii}
-use Rattle.numbers.specs.declared.threshold.Threshold.{Threshold}
 use Rattle.settings.specs.declared.model.Model.{Model}
 use Rattle.settings.specs.declared.model.Model.the-variants.{Tpg361, Tpg362}
 use Rattle.settings.specs.declared.settings.Switching.{Switching}

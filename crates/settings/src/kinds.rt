@@ -49,24 +49,6 @@ fn factor() -> Kind
     })
 }
 
-// An assignment, or ERA: 3 needs channel 2.
-fn assignment(model: Model) -> Kind
-    ensures { λ r. ⌜ r ≡ assignment model ⌝ }
-{
-    match model {
-        Model::Tpg361 => Kind::Whole(Limits {
-            least: 0,
-            most: 2,
-            reach: 3,
-        }),
-        Model::Tpg362 => Kind::Whole(Limits {
-            least: 0,
-            most: 3,
-            reach: 3,
-        }),
-    }
-}
-
 fn none() -> Kinds
     ensures { λ r. ⌜ r ≡ packed [] ⌝ }
 {
@@ -89,65 +71,85 @@ fn one(k: Kind) -> Kinds
     }
 }
 
-fn per_channel(model: Model, k: Kind) -> Kinds
-    ensures { λ r. ⌜ r ≡ packed (perChannel model k) ⌝ }
-{
-    match model {
-        Model::Tpg361 => one(k),
-        Model::Tpg362 => Kinds {
-            count: 2,
-            first: k,
-            second: k,
-            third: Kind::Threshold,
-        },
-    }
-}
-
-// EVA FMT LNG NAD PRE PRO PUC DCS, behind ERA
+// ERA EVA FMT LNG NAD PRE PRO PUC DCS; ERA's stand with the model
 const LEAST: [u32; 9] = [0, 0, 0, 0, 1, 0, 0, 0, 0];
 
 const MOST: [u32; 9] = [3, 1, 1, 2, 24, 1, 2, 1, 6];
 
-fn stored_kinds(model: Model, k: u8) -> Kinds
-    ensures { λ r. ⌜ r ≡ packed (storedKinds model k) ⌝ }
-{
-    let i = k as usize;
-    if i == 0 {
-        return one(assignment(model));
+impl Model {
+    // An assignment, or ERA: 3 needs channel 2.
+    fn assignment(self) -> Kind
+        ensures { λ r. ⌜ r ≡ assignment self ⌝ }
+    {
+        match self {
+            Model::Tpg361 => Kind::Whole(Limits {
+                least: 0,
+                most: 2,
+                reach: 3,
+            }),
+            Model::Tpg362 => Kind::Whole(Limits {
+                least: 0,
+                most: 3,
+                reach: 3,
+            }),
+        }
     }
-    if i < 9 {
-        return one(whole(LEAST[i], MOST[i]));
-    }
-    none()
-}
 
-fn setting_kinds(model: Model, x: Setting) -> Kinds
-    ensures { λ r. ⌜ r ≡ packed (settingKinds model x) ⌝ }
-{
-    match x {
-        Setting::Uni => one(whole(0, 4)),
-        Setting::Fil => per_channel(model, whole(0, 3)),
-        Setting::Cal => per_channel(model, factor()),
-        Setting::Dcd => per_channel(model, whole(0, 4)),
-        Setting::Sp(_) => Kinds {
-            count: 3,
-            first: assignment(model),
-            second: Kind::Threshold,
-            third: Kind::Threshold,
-        },
-        Setting::Stored(k) => stored_kinds(model, k),
+    fn per_channel(self, k: Kind) -> Kinds
+        ensures { λ r. ⌜ r ≡ packed (perChannel self k) ⌝ }
+    {
+        match self {
+            Model::Tpg361 => one(k),
+            Model::Tpg362 => Kinds {
+                count: 2,
+                first: k,
+                second: k,
+                third: Kind::Threshold,
+            },
+        }
     }
-}
 
-// The fields of a mnemonic on a model.
-pub fn shape(model: Model, m: Mnemonic) -> Kinds
-    ensures { λ r. ⌜ r ≡ packed (kinds model m) ⌝ }
-{
-    match m {
-        Mnemonic::Setting(x) => setting_kinds(model, x),
-        Mnemonic::Cf(_) => one(factor()),
-        Mnemonic::Query(_) => none(),
-        Mnemonic::Com => one(whole(0, 2)),
-        Mnemonic::Sav => one(whole(0, 1)),
+    fn stored_kinds(self, k: u8) -> Kinds
+        ensures { λ r. ⌜ r ≡ packed (storedKinds self k) ⌝ }
+    {
+        let i = k as usize;
+        if i == 0 {
+            return one(self.assignment());
+        }
+        if i < 9 {
+            return one(whole(LEAST[i], MOST[i]));
+        }
+        none()
+    }
+
+    fn setting_kinds(self, x: Setting) -> Kinds
+        ensures { λ r. ⌜ r ≡ packed (settingKinds self x) ⌝ }
+    {
+        match x {
+            Setting::Uni => one(whole(0, 4)),
+            Setting::Fil => self.per_channel(whole(0, 3)),
+            Setting::Cal => self.per_channel(factor()),
+            Setting::Dcd => self.per_channel(whole(0, 4)),
+            Setting::Sp(_) => Kinds {
+                count: 3,
+                first: self.assignment(),
+                second: Kind::Threshold,
+                third: Kind::Threshold,
+            },
+            Setting::Stored(k) => self.stored_kinds(k),
+        }
+    }
+
+    // The fields of a mnemonic on a model.
+    pub fn shape(self, m: Mnemonic) -> Kinds
+        ensures { λ r. ⌜ r ≡ packed (kinds self m) ⌝ }
+    {
+        match m {
+            Mnemonic::Setting(x) => self.setting_kinds(x),
+            Mnemonic::Cf(_) => one(factor()),
+            Mnemonic::Query(_) => none(),
+            Mnemonic::Com => one(whole(0, 2)),
+            Mnemonic::Sav => one(whole(0, 1)),
+        }
     }
 }

@@ -3,7 +3,6 @@ ghost use mathlib.Core.Path.{_≡_};
 ghost use Rattle.settings.specs.Limits.{inside, fits, sameCell, placeWithin, rowWithin, within};
 use crate::kinds::Kind;
 use crate::kinds::Limits;
-use crate::kinds::shape;
 use crate::mnemonic::Mnemonic;
 use crate::mnemonic::Setting;
 use crate::model::Model;
@@ -53,7 +52,7 @@ impl Settings {
     fn row_is_within(self, model: Model, x: Setting) -> bool
         ensures { λ r. ⌜ r ≡ rowWithin model self x ⌝ }
     {
-        let ks = shape(model, Mnemonic::Setting(x));
+        let ks = model.shape(Mnemonic::Setting(x));
         let n = ks.count;
         let r = self.row(x);
         let d = model.defaults().row(x);

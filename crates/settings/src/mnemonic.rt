@@ -130,22 +130,24 @@ impl Model {
     }
 }
 
-// The channel that a mnemonic is about, from 0 on; 0 where it is about none.
-pub fn channel_of(m: Mnemonic) -> u8
-    ensures { λ r. ⌜ r ≡ channelOf m ⌝ }
-{
-    match m {
-        Mnemonic::Setting(_) => 0,
-        Mnemonic::Cf(k) => k,
-        Mnemonic::Query(q) => match q {
-            Query::Pr(k) => k,
-            Query::Sps => 0,
-            Query::Prx => 0,
-            Query::Tid => 0,
-            Query::Ayt => 0,
-            Query::Err => 0,
-        },
-        Mnemonic::Com => 0,
-        Mnemonic::Sav => 0,
+impl Mnemonic {
+    // The channel that a mnemonic is about, from 0 on; 0 where it is about none.
+    pub fn channel(self) -> u8
+        ensures { λ r. ⌜ r ≡ channelOf self ⌝ }
+    {
+        match self {
+            Mnemonic::Setting(_) => 0,
+            Mnemonic::Cf(k) => k,
+            Mnemonic::Query(q) => match q {
+                Query::Pr(k) => k,
+                Query::Sps => 0,
+                Query::Prx => 0,
+                Query::Tid => 0,
+                Query::Ayt => 0,
+                Query::Err => 0,
+            },
+            Mnemonic::Com => 0,
+            Mnemonic::Sav => 0,
+        }
     }
 }

@@ -1,6 +1,5 @@
 // The models, and the rules that belong to one.
 ghost use mathlib.Core.Path.{_≡_};
-ghost use lib.ListN.{length, getD};
 ghost use Rattle.text.specs.Text.{puts};
 ghost use Rattle.settings.specs.Models.{channels, names, startsOn, defaults};
 ghost use Rattle.settings.specs.Mnemonics.{sheet};

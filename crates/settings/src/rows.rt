@@ -3,7 +3,6 @@ ghost use mathlib.Core.Path.{_≡_};
 ghost use mathlib.Core.Bool.{cond};
 ghost use lib.ListN.{getD, set};
 ghost use Rattle.settings.specs.Rows.{plain, pairRow, switchRow, row, switchingOf, withRow, mixed, stored};
-use crate::kinds::shape;
 use crate::mnemonic::Mnemonic;
 use crate::mnemonic::Setting;
 use crate::model::Model;
@@ -168,7 +167,7 @@ impl Settings {
     {
         match m {
             Mnemonic::Setting(x) => {
-                let ks = shape(model, m);
+                let ks = model.shape(m);
                 self.with_row(x, mixed(ks.count, r, self.row(x)))
             }
             Mnemonic::Cf(k) => {

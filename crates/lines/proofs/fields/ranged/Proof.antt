@@ -1,28 +1,19 @@
-
 use borrow.Author.Needs.{needs}
 use Rattle.lines.proofs.fields.ranged.Statement.{statement}
 use Rattle.lines.proofs.fields.ranged.Tie as tie
-use Rattle.lines.proofs.fields.ranged.Reads as reads
-use Rattle.lines.proofs.fields.ranged.Lts as lts
-use Rattle.lines.proofs.fields.limited.Reads as limited-reads
 
--- src/fields.rt:70:31
 enum-told : tie.Need-enum-told
 enum-told c = search needs
 
--- src/fields.rt:71:25
 enum-known-t : tie.Need-enum-known-t
 enum-known-t c = search needs
 
--- src/fields.rt:71:31
 limited-requires : tie.Need-limited-requires
 limited-requires c κs = search needs
 
--- src/fields.rt:66:1
 returns : tie.Need-returns
 returns c = search needs
 
--- src/fields.rt:66:1
 returns-2 : tie.Need-returns-2
 returns-2 c = rw (c .limited .ensures, c .before .before .t .given .1)
 

@@ -1,60 +1,40 @@
-
 use borrow.Author.Needs.{needs}
 use Rattle.lines.proofs.fields.read.Statement.{statement}
 use Rattle.lines.proofs.fields.read.Tie as tie
-use Rattle.lines.proofs.fields.read.Reads as reads
-use Rattle.lines.proofs.fields.read.Lts as lts
-use Rattle.lines.proofs.fields.ranged.Reads as ranged-reads
-use Rattle.lines.proofs.fields.threshold_field.Reads as threshold-field-reads
-use Rattle.numerals.proofs.threshold.read_threshold.Reads as read-threshold-reads
-use Rattle.numerals.proofs.whole.read_factor.Reads as read-factor-reads
-use Rattle.numerals.proofs.whole.read_whole.Reads as read-whole-reads
 
--- src/fields.rt:90:21
 enum-known-kind : tie.Need-enum-known-kind
 enum-known-kind c = search needs
 
--- src/fields.rt:90:37
 read-whole-requires : tie.Need-read-whole-requires
 read-whole-requires c κs = search needs
 
--- src/fields.rt:90:27
 ranged-requires : tie.Need-ranged-requires
 ranged-requires c κs = search needs
 
--- src/fields.rt:91:22
 enum-known-kind-2 : tie.Need-enum-known-kind-2
 enum-known-kind-2 c = search needs
 
--- src/fields.rt:91:38
 read-factor-requires : tie.Need-read-factor-requires
 read-factor-requires c κs = search needs
 
--- src/fields.rt:91:28
 ranged-requires-2 : tie.Need-ranged-requires-2
 ranged-requires-2 c κs = search needs
 
--- src/fields.rt:92:44
 enum-told : tie.Need-enum-told
 enum-told c = search needs
 
--- src/fields.rt:92:44
 read-threshold-requires : tie.Need-read-threshold-requires
 read-threshold-requires c κs = search needs
 
--- src/fields.rt:92:28
 threshold-field-requires : tie.Need-threshold-field-requires
 threshold-field-requires c κs = search needs
 
--- src/fields.rt:86:1
 returns : tie.Need-returns
 returns c = rw (c .ranged .ensures, c .before .read-whole .ensures, c .before .before .before .kind .given .1)
 
--- src/fields.rt:86:1
 returns-2 : tie.Need-returns-2
 returns-2 c = rw (c .ranged2 .ensures, c .before .read-factor .ensures, c .before .before .before .kind2 .given .1)
 
--- src/fields.rt:86:1
 returns-3 : tie.Need-returns-3
 returns-3 c = rw (c .threshold-field .ensures, c .before .read-threshold .ensures, c .before .before .enum-told .given .1)
 

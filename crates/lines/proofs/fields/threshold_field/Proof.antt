@@ -1,31 +1,22 @@
-
 use borrow.Author.Needs.{needs}
 use Rattle.lines.proofs.fields.threshold_field.Statement.{statement}
 use Rattle.lines.proofs.fields.threshold_field.Tie as tie
-use Rattle.lines.proofs.fields.threshold_field.Reads as reads
-use Rattle.lines.proofs.fields.threshold_field.Lts as lts
 
--- src/fields.rt:79:40
 enum-told : tie.Need-enum-told
 enum-told c = search needs
 
--- src/fields.rt:80:55
 enum-told-2 : tie.Need-enum-told-2
 enum-told-2 c = search needs
 
--- src/fields.rt:81:34
 enum-known-t : tie.Need-enum-known-t
 enum-known-t c = search needs
 
--- src/fields.rt:75:1
 returns : tie.Need-returns
 returns c = search needs
 
--- src/fields.rt:75:1
 returns-2 : tie.Need-returns-2
 returns-2 c = rw (c .enum-told2 .given .1)
 
--- src/fields.rt:75:1
 returns-3 : tie.Need-returns-3
 returns-3 c = rw (c .before .t .given .1)
 

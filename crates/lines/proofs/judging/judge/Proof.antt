@@ -1,5 +1,4 @@
 -- The word before the first comma names the mnemonic (`word-front`).
-use Prim.Native.Nat.{ℕ, _≤_}
 use mathlib.Core.Path.{_≡_, sym, ap, _∙_}
 use lib.ListN.{length}
 use Rattle.settings.specs.Mnemonics.{recognised}

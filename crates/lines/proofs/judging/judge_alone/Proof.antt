@@ -1,56 +1,40 @@
-
 use borrow.Author.Needs.{needs}
 use Rattle.lines.proofs.judging.judge_alone.Statement.{statement}
 use Rattle.lines.proofs.judging.judge_alone.Tie as tie
-use Rattle.lines.proofs.judging.judge_alone.Reads as reads
-use Rattle.lines.proofs.judging.judge_alone.Lts as lts
-use Rattle.settings.proofs.rows.pair_row.Reads as pair-row-reads
 
--- src/judging.rt:51:33
 enum-told : tie.Need-enum-told
 enum-told c = search needs
 
--- src/judging.rt:52:28
 enum-told-2 : tie.Need-enum-told-2
 enum-told-2 c = search needs
 
--- src/judging.rt:53:31
 enum-told-3 : tie.Need-enum-told-3
 enum-told-3 c = search needs
 
--- src/judging.rt:54:45
 enum-told-4 : tie.Need-enum-told-4
 enum-told-4 c = search needs
 
--- src/judging.rt:54:45
 pair-row-requires : tie.Need-pair-row-requires
 pair-row-requires c κs = search needs
 
--- src/judging.rt:55:45
 enum-told-5 : tie.Need-enum-told-5
 enum-told-5 c = search needs
 
--- src/judging.rt:55:45
 pair-row-requires-2 : tie.Need-pair-row-requires-2
 pair-row-requires-2 c κs = search needs
 
--- src/judging.rt:47:1
 returns : tie.Need-returns
 returns c = rw (c .enum-told .given .1)
 
--- src/judging.rt:47:1
 returns-2 : tie.Need-returns-2
 returns-2 c = rw (c .enum-told2 .given .1)
 
--- src/judging.rt:47:1
 returns-3 : tie.Need-returns-3
 returns-3 c = rw (c .enum-told3 .given .1)
 
--- src/judging.rt:47:1
 returns-4 : tie.Need-returns-4
 returns-4 c = rw (c .pair-row .ensures, c .before .enum-told4 .given .1)
 
--- src/judging.rt:47:1
 returns-5 : tie.Need-returns-5
 returns-5 c = rw (c .pair-row2 .ensures, c .before .enum-told5 .given .1)
 

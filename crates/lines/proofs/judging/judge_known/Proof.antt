@@ -8,8 +8,8 @@ use native.Mathlib.Omega.{arith}
 use Rattle.lines.proofs.judging.judge_known.Statement.{statement}
 use Rattle.lines.proofs.judging.judge_known.Tie as tie
 
-channel-of-requires : tie.Need-channel-of-requires
-channel-of-requires c κs = search needs
+channel-requires : tie.Need-channel-requires
+channel-requires c κs = search needs
 
 cast-channel : tie.Need-cast-channel
 cast-channel c = search needs
@@ -27,7 +27,7 @@ returns : tie.Need-returns
 returns c =
     let n = c .before .before .before in
     let a = n .before .before .before .args in
-    let h : channelOf (a .m) < channels (a .model) = omega (arith, n .channels .ensures, n .before .channel-of .ensures, c .before .before .if1 .taken) in
+    let h : channelOf (a .m) < channels (a .model) = omega (arith, n .channels .ensures, n .before .channel .ensures, c .before .before .if1 .taken) in
     c .judge-fields .ensures ∙ known-more (a .model) (a .m) (a .s .now) (a .e) h (c .before .if2 .taken)
 
 judge-alone-requires : tie.Need-judge-alone-requires
@@ -37,21 +37,21 @@ returns-2 : tie.Need-returns-2
 returns-2 c =
     let n = c .before .before .before in
     let a = n .before .before .before .args in
-    let h : channelOf (a .m) < channels (a .model) = omega (arith, n .channels .ensures, n .before .channel-of .ensures, c .before .before .if1 .taken) in
+    let h : channelOf (a .m) < channels (a .model) = omega (arith, n .channels .ensures, n .before .channel .ensures, c .before .before .if1 .taken) in
     c .judge-alone .ensures ∙ known-alone (a .model) (a .m) (a .s .now) (a .e) h (c .before .if2 .left)
 
 returns-3 : tie.Need-returns-3
 returns-3 c =
     let n = c .before in
     let a = n .before .before .before .args in
-    let h : channels (a .model) ≤ channelOf (a .m) = omega (arith, n .channels .ensures, n .before .channel-of .ensures, c .if1 .left) in
+    let h : channels (a .model) ≤ channelOf (a .m) = omega (arith, n .channels .ensures, n .before .channel .ensures, c .if1 .left) in
     known-not (a .model) (a .m) (a .s .now) (a .e) h
 
 pub judge-known-spec : {M : Type 1} → statement M
 judge-known-spec =
     tie.close
     (tie.spec
-    channel-of-requires
+    channel-requires
     cast-channel
     channels-requires
     add-judge-fields

@@ -1,7 +1,6 @@
 -- The cells one after the other (`setting-written`); a setting that the model has no field for has no text.
 use mathlib.Core.Path.{sym, ap, _∙_}
 use Rattle.text.specs.Text.{puts}
-use Rattle.text.specs.declared.Text.{Text}
 use Rattle.settings.specs.declared.kinds.Kinds.{Kinds}
 use Rattle.lines.proofs.Written.{setting-none, setting-written}
 use borrow.Author.Needs.{needs}

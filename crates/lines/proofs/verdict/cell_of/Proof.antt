@@ -1,40 +1,28 @@
-
 use borrow.Author.Needs.{needs}
 use Rattle.lines.proofs.verdict.cell_of.Statement.{statement}
 use Rattle.lines.proofs.verdict.cell_of.Tie as tie
-use Rattle.lines.proofs.verdict.cell_of.Reads as reads
-use Rattle.lines.proofs.verdict.cell_of.Lts as lts
-use Rattle.settings.proofs.rows.plain.Reads as plain-reads
 
--- src/verdict.rt:54:21
 enum-known-f : tie.Need-enum-known-f
 enum-known-f c = search needs
 
--- src/verdict.rt:55:29
 enum-told : tie.Need-enum-told
 enum-told c = search needs
 
--- src/verdict.rt:55:29
 plain-requires : tie.Need-plain-requires
 plain-requires c κs = search needs
 
--- src/verdict.rt:56:29
 enum-told-2 : tie.Need-enum-told-2
 enum-told-2 c = search needs
 
--- src/verdict.rt:56:29
 plain-requires-2 : tie.Need-plain-requires-2
 plain-requires-2 c κs = search needs
 
--- src/verdict.rt:50:1
 returns : tie.Need-returns
 returns c = search needs
 
--- src/verdict.rt:50:1
 returns-2 : tie.Need-returns-2
 returns-2 c = rw (c .plain .ensures, c .before .enum-told .given .1)
 
--- src/verdict.rt:50:1
 returns-3 : tie.Need-returns-3
 returns-3 c = rw (c .plain2 .ensures, c .before .enum-told2 .given .1)
 

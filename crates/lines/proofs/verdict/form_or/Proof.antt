@@ -1,31 +1,22 @@
-
 use borrow.Author.Needs.{needs}
 use Rattle.lines.proofs.verdict.form_or.Statement.{statement}
 use Rattle.lines.proofs.verdict.form_or.Tie as tie
-use Rattle.lines.proofs.verdict.form_or.Reads as reads
-use Rattle.lines.proofs.verdict.form_or.Lts as lts
 
--- src/verdict.rt:34:46
 enum-told : tie.Need-enum-told
 enum-told c = search needs
 
--- src/verdict.rt:35:27
 enum-told-2 : tie.Need-enum-told-2
 enum-told-2 c = search needs
 
--- src/verdict.rt:36:29
 enum-told-3 : tie.Need-enum-told-3
 enum-told-3 c = search needs
 
--- src/verdict.rt:30:1
 returns : tie.Need-returns
 returns c = rw (c .enum-told .given .1)
 
--- src/verdict.rt:30:1
 returns-2 : tie.Need-returns-2
 returns-2 c = search needs
 
--- src/verdict.rt:30:1
 returns-3 : tie.Need-returns-3
 returns-3 c = search needs
 

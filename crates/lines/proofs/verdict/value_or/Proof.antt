@@ -1,31 +1,22 @@
-
 use borrow.Author.Needs.{needs}
 use Rattle.lines.proofs.verdict.value_or.Statement.{statement}
 use Rattle.lines.proofs.verdict.value_or.Tie as tie
-use Rattle.lines.proofs.verdict.value_or.Reads as reads
-use Rattle.lines.proofs.verdict.value_or.Lts as lts
 
--- src/verdict.rt:44:23
 enum-known-f : tie.Need-enum-known-f
 enum-known-f c = search needs
 
--- src/verdict.rt:45:27
 enum-told : tie.Need-enum-told
 enum-told c = search needs
 
--- src/verdict.rt:46:29
 enum-told-2 : tie.Need-enum-told-2
 enum-told-2 c = search needs
 
--- src/verdict.rt:40:1
 returns : tie.Need-returns
 returns c = rw (c .before .f .given .1)
 
--- src/verdict.rt:40:1
 returns-2 : tie.Need-returns-2
 returns-2 c = search needs
 
--- src/verdict.rt:40:1
 returns-3 : tie.Need-returns-3
 returns-3 c = search needs
 

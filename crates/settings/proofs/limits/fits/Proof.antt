@@ -1,45 +1,31 @@
-
 use borrow.Author.Needs.{needs}
 use Rattle.settings.proofs.limits.fits.Statement.{statement}
 use Rattle.settings.proofs.limits.fits.Tie as tie
-use Rattle.settings.proofs.limits.fits.Reads as reads
-use Rattle.settings.proofs.limits.fits.Lts as lts
-use Rattle.numbers.proofs.threshold.Threshold.is_within.Reads as is-within-reads
-use Rattle.settings.proofs.limits.is_inside.Reads as is-inside-reads
 
--- src/limits.rt:26:21
 enum-known-kind : tie.Need-enum-known-kind
 enum-known-kind c = search needs
 
--- src/limits.rt:26:27
 is-inside-requires : tie.Need-is-inside-requires
 is-inside-requires c κs = search needs
 
--- src/limits.rt:27:22
 enum-known-kind-2 : tie.Need-enum-known-kind-2
 enum-known-kind-2 c = search needs
 
--- src/limits.rt:27:28
 is-inside-requires-2 : tie.Need-is-inside-requires-2
 is-inside-requires-2 c κs = search needs
 
--- src/limits.rt:28:28
 enum-told : tie.Need-enum-told
 enum-told c = search needs
 
--- src/limits.rt:28:28
 is-within-requires : tie.Need-is-within-requires
 is-within-requires c κs = search needs
 
--- src/limits.rt:22:1
 returns : tie.Need-returns
 returns c = rw (c .is-inside .ensures, c .before .before .kind .given .1)
 
--- src/limits.rt:22:1
 returns-2 : tie.Need-returns-2
 returns-2 c = rw (c .is-inside2 .ensures, c .before .before .kind2 .given .1)
 
--- src/limits.rt:22:1
 returns-3 : tie.Need-returns-3
 returns-3 c = rw (c .is-within .ensures, c .before .enum-told .given .1)
 

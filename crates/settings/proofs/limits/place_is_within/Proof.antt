@@ -1,4 +1,3 @@
-use mathlib.Core.Path.{_∙_}
 use borrow.Author.Needs.{needs}
 use Rattle.settings.proofs.limits.place_is_within.Statement.{statement}
 use Rattle.settings.proofs.limits.place_is_within.Tie as tie

@@ -1,24 +1,16 @@
-
 use borrow.Author.Needs.{needs}
 use Rattle.settings.proofs.rows.mixed.Statement.{statement}
 use Rattle.settings.proofs.rows.mixed.Tie as tie
-use Rattle.settings.proofs.rows.mixed.Reads as reads
-use Rattle.settings.proofs.rows.mixed.Lts as lts
-use Rattle.settings.proofs.rows.either.Reads as either-reads
 
--- src/rows.rt:76:16
 either-requires : tie.Need-either-requires
 either-requires c κs = search needs
 
--- src/rows.rt:77:17
 either-requires-2 : tie.Need-either-requires-2
 either-requires-2 c κs = search needs
 
--- src/rows.rt:78:16
 either-requires-3 : tie.Need-either-requires-3
 either-requires-3 c κs = search needs
 
--- src/rows.rt:72:1
 returns : tie.Need-returns
 returns c = rw (c .either3 .ensures, c .before .either2 .ensures, c .before .before .either .ensures)
 

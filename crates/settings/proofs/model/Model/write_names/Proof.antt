@@ -1,40 +1,28 @@
-
 use borrow.Author.Needs.{needs}
 use Rattle.settings.proofs.model.Model.write_names.Statement.{statement}
 use Rattle.settings.proofs.model.Model.write_names.Tie as tie
-use Rattle.settings.proofs.model.Model.write_names.Reads as reads
-use Rattle.settings.proofs.model.Model.write_names.Lts as lts
-use Rattle.text.proofs.Text.append.Reads as append-reads
 
--- src/model.rt:45:39
 enum-told : tie.Need-enum-told
 enum-told c = search needs
 
--- src/model.rt:45:39
 slice-aggregate-append : tie.Need-slice-aggregate-append
 slice-aggregate-append c = search needs
 
--- src/model.rt:45:30
 append-requires : tie.Need-append-requires
 append-requires c κs = search needs
 
--- src/model.rt:46:39
 enum-told-2 : tie.Need-enum-told-2
 enum-told-2 c = search needs
 
--- src/model.rt:46:39
 slice-aggregate-append-2 : tie.Need-slice-aggregate-append-2
 slice-aggregate-append-2 c = search needs
 
--- src/model.rt:46:30
 append-requires-2 : tie.Need-append-requires-2
 append-requires-2 c κs = search needs
 
--- src/model.rt:41:5
 returns : tie.Need-returns
 returns c = rw (c .append .ensures, c .before .before .enum-told .given .1)
 
--- src/model.rt:41:5
 returns-2 : tie.Need-returns-2
 returns-2 c = rw (c .append2 .ensures, c .before .before .enum-told2 .given .1)
 

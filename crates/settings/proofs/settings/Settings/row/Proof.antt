@@ -1,110 +1,79 @@
-
 use borrow.Author.Needs.{needs}
 use Rattle.settings.proofs.settings.Settings.row.Statement.{statement}
 use Rattle.settings.proofs.settings.Settings.row.Tie as tie
-use Rattle.settings.proofs.settings.Settings.row.Reads as reads
-use Rattle.settings.proofs.settings.Settings.row.Lts as lts
-use Rattle.settings.proofs.rows.pair_row.Reads as pair-row-reads
-use Rattle.settings.proofs.rows.stored_at.Reads as stored-at-reads
-use Rattle.settings.proofs.rows.switch_row.Reads as switch-row-reads
 
--- src/rows.rt:88:38
 enum-told : tie.Need-enum-told
 enum-told c = search needs
 
--- src/rows.rt:88:29
 pair-row-requires : tie.Need-pair-row-requires
 pair-row-requires c κs = search needs
 
--- src/rows.rt:89:38
 enum-told-2 : tie.Need-enum-told-2
 enum-told-2 c = search needs
 
--- src/rows.rt:89:38
 element-copy-out-pair-row : tie.Need-element-copy-out-pair-row
 element-copy-out-pair-row c = search needs
 
--- src/rows.rt:89:55
 element-copy-out-pair-row-2 : tie.Need-element-copy-out-pair-row-2
 element-copy-out-pair-row-2 c = search needs
 
--- src/rows.rt:89:29
 pair-row-requires-2 : tie.Need-pair-row-requires-2
 pair-row-requires-2 c κs = search needs
 
--- src/rows.rt:90:38
 enum-told-3 : tie.Need-enum-told-3
 enum-told-3 c = search needs
 
--- src/rows.rt:90:38
 element-copy-out-pair-row-3 : tie.Need-element-copy-out-pair-row-3
 element-copy-out-pair-row-3 c = search needs
 
--- src/rows.rt:90:55
 element-copy-out-pair-row-4 : tie.Need-element-copy-out-pair-row-4
 element-copy-out-pair-row-4 c = search needs
 
--- src/rows.rt:90:29
 pair-row-requires-3 : tie.Need-pair-row-requires-3
 pair-row-requires-3 c κs = search needs
 
--- src/rows.rt:91:38
 enum-told-4 : tie.Need-enum-told-4
 enum-told-4 c = search needs
 
--- src/rows.rt:91:38
 element-copy-out-pair-row-5 : tie.Need-element-copy-out-pair-row-5
 element-copy-out-pair-row-5 c = search needs
 
--- src/rows.rt:91:59
 element-copy-out-pair-row-6 : tie.Need-element-copy-out-pair-row-6
 element-copy-out-pair-row-6 c = search needs
 
--- src/rows.rt:91:29
 pair-row-requires-4 : tie.Need-pair-row-requires-4
 pair-row-requires-4 c κs = search needs
 
--- src/rows.rt:92:25
 enum-known-x : tie.Need-enum-known-x
 enum-known-x c = search needs
 
--- src/rows.rt:94:17
 switch-row-requires : tie.Need-switch-row-requires
 switch-row-requires c κs = search needs
 
--- src/rows.rt:96:29
 enum-known-x-2 : tie.Need-enum-known-x-2
 enum-known-x-2 c = search needs
 
--- src/rows.rt:98:26
 stored-at-requires : tie.Need-stored-at-requires
 stored-at-requires c κs = search needs
 
--- src/rows.rt:98:17
 pair-row-requires-5 : tie.Need-pair-row-requires-5
 pair-row-requires-5 c κs = search needs
 
--- src/rows.rt:84:5
 returns : tie.Need-returns
 returns c = rw (c .pair-row .ensures, c .before .enum-told .given .1)
 
--- src/rows.rt:84:5
 returns-2 : tie.Need-returns-2
 returns-2 c = rw (c .pair-row2 .ensures, c .before .before .before .enum-told2 .given .1)
 
--- src/rows.rt:84:5
 returns-3 : tie.Need-returns-3
 returns-3 c = rw (c .pair-row3 .ensures, c .before .before .before .enum-told3 .given .1)
 
--- src/rows.rt:84:5
 returns-4 : tie.Need-returns-4
 returns-4 c = rw (c .pair-row4 .ensures, c .before .before .before .enum-told4 .given .1)
 
--- src/rows.rt:84:5
 returns-5 : tie.Need-returns-5
 returns-5 c = rw (c .switch-row .ensures, c .before .before .before .x .given .1)
 
--- src/rows.rt:84:5
 returns-6 : tie.Need-returns-6
 returns-6 c = rw (c .pair-row5 .ensures, c .before .stored-at .ensures, c .before .before .before .before .x2 .given .1)
 

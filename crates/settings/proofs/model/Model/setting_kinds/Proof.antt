@@ -1,101 +1,70 @@
-
 use borrow.Author.Needs.{needs}
-use Rattle.settings.proofs.kinds.setting_kinds.Statement.{statement}
-use Rattle.settings.proofs.kinds.setting_kinds.Tie as tie
-use Rattle.settings.proofs.kinds.setting_kinds.Reads as reads
-use Rattle.settings.proofs.kinds.setting_kinds.Lts as lts
-use Rattle.settings.proofs.kinds.assignment.Reads as assignment-reads
-use Rattle.settings.proofs.kinds.factor.Reads as factor-reads
-use Rattle.settings.proofs.kinds.one.Reads as one-reads
-use Rattle.settings.proofs.kinds.per_channel.Reads as per-channel-reads
-use Rattle.settings.proofs.kinds.stored_kinds.Reads as stored-kinds-reads
-use Rattle.settings.proofs.kinds.whole.Reads as whole-reads
+use Rattle.settings.proofs.model.Model.setting_kinds.Statement.{statement}
+use Rattle.settings.proofs.model.Model.setting_kinds.Tie as tie
 
--- src/kinds.rt:128:29
 enum-told : tie.Need-enum-told
 enum-told c = search needs
 
--- src/kinds.rt:128:29
 whole-requires : tie.Need-whole-requires
 whole-requires c κs = search needs
 
--- src/kinds.rt:128:25
 one-requires : tie.Need-one-requires
 one-requires c κs = search needs
 
--- src/kinds.rt:129:44
 enum-told-2 : tie.Need-enum-told-2
 enum-told-2 c = search needs
 
--- src/kinds.rt:129:44
 whole-requires-2 : tie.Need-whole-requires-2
 whole-requires-2 c κs = search needs
 
--- src/kinds.rt:129:25
 per-channel-requires : tie.Need-per-channel-requires
 per-channel-requires c κs = search needs
 
--- src/kinds.rt:130:44
 enum-told-3 : tie.Need-enum-told-3
 enum-told-3 c = search needs
 
--- src/kinds.rt:130:44
 factor-requires : tie.Need-factor-requires
 factor-requires c κs = search needs
 
--- src/kinds.rt:130:25
 per-channel-requires-2 : tie.Need-per-channel-requires-2
 per-channel-requires-2 c κs = search needs
 
--- src/kinds.rt:131:44
 enum-told-4 : tie.Need-enum-told-4
 enum-told-4 c = search needs
 
--- src/kinds.rt:131:44
 whole-requires-3 : tie.Need-whole-requires-3
 whole-requires-3 c κs = search needs
 
--- src/kinds.rt:131:25
 per-channel-requires-3 : tie.Need-per-channel-requires-3
 per-channel-requires-3 c κs = search needs
 
--- src/kinds.rt:134:20
 enum-told-5 : tie.Need-enum-told-5
 enum-told-5 c = search needs
 
--- src/kinds.rt:134:20
 assignment-requires : tie.Need-assignment-requires
 assignment-requires c κs = search needs
 
--- src/kinds.rt:138:25
 enum-known-x : tie.Need-enum-known-x
 enum-known-x c = search needs
 
--- src/kinds.rt:138:31
 stored-kinds-requires : tie.Need-stored-kinds-requires
 stored-kinds-requires c κs = search needs
 
--- src/kinds.rt:124:1
 returns : tie.Need-returns
 returns c = rw (c .one .ensures, c .before .whole .ensures, c .before .before .enum-told .given .1)
 
--- src/kinds.rt:124:1
 returns-2 : tie.Need-returns-2
 returns-2 c = rw (c .per-channel .ensures, c .before .whole2 .ensures, c .before .before .enum-told2 .given .1)
 
--- src/kinds.rt:124:1
 returns-3 : tie.Need-returns-3
 returns-3 c = rw (c .per-channel2 .ensures, c .before .factor .ensures, c .before .before .enum-told3 .given .1)
 
--- src/kinds.rt:124:1
 returns-4 : tie.Need-returns-4
 returns-4 c = rw (c .per-channel3 .ensures, c .before .whole3 .ensures, c .before .before .enum-told4 .given .1)
 
--- src/kinds.rt:124:1
 returns-5 : tie.Need-returns-5
 returns-5 c = rw (c .assignment .ensures, c .before .enum-told5 .given .1)
 
--- src/kinds.rt:124:1
 returns-6 : tie.Need-returns-6
 returns-6 c = rw (c .stored-kinds .ensures, c .before .before .x .given .1)
 

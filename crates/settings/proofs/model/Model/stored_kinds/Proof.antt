@@ -6,8 +6,8 @@ use Rattle.settings.specs.Kinds.{packed, storedKinds}
 use Rattle.settings.specs.declared.kinds.Kind.{Kind}
 use Rattle.settings.proofs.Tabled.{stored-entry, stored-past}
 use borrow.Author.Needs.{needs}
-use Rattle.settings.proofs.kinds.stored_kinds.Statement.{statement}
-use Rattle.settings.proofs.kinds.stored_kinds.Tie as tie
+use Rattle.settings.proofs.model.Model.stored_kinds.Statement.{statement}
+use Rattle.settings.proofs.model.Model.stored_kinds.Tie as tie
 
 assignment-requires : tie.Need-assignment-requires
 assignment-requires c κs = search needs
@@ -19,7 +19,7 @@ returns : tie.Need-returns
 unfolding storedKinds
 returns c =
     c .one .ensures ∙ ap (λ (x : Kind). packed (x ∷ [])) (c .before .assignment .ensures)
-    ∙ ap (λ (k : ℕ). packed (storedKinds (c .before .before .before .args .model) k)) (sym (c .before .before .if1 .taken))
+    ∙ ap (λ (k : ℕ). packed (storedKinds (c .before .before .before .args .self) k)) (sym (c .before .before .if1 .taken))
 
 mul-whole : tie.Need-mul-whole
 mul-whole c = search needs
@@ -43,7 +43,7 @@ returns-2 : tie.Need-returns-2
 returns-2 c =
     let a = c .before .before .before .before .args in
     c .one2 .ensures ∙ ap (λ (x : Kind). packed (x ∷ [])) (c .before .whole .ensures)
-    ∙ ap packed (sym (stored-entry (a .model) (a .k) (c .before .before .if2 .taken) (c .before .before .before .if1 .left)))
+    ∙ ap packed (sym (stored-entry (a .self) (a .k) (c .before .before .if2 .taken) (c .before .before .before .if1 .left)))
 
 none-requires : tie.Need-none-requires
 none-requires c κs = search needs
@@ -51,7 +51,7 @@ none-requires c κs = search needs
 returns-3 : tie.Need-returns-3
 returns-3 c =
     let a = c .before .before .before .args in
-    c .none .ensures ∙ ap packed (sym (stored-past (a .model) (a .k) (c .before .if2 .left)))
+    c .none .ensures ∙ ap packed (sym (stored-past (a .self) (a .k) (c .before .if2 .left)))
 
 pub stored-kinds-spec : {M : Type 1} → statement M
 stored-kinds-spec =

@@ -30,7 +30,7 @@ impl Reading {
     }
 
     // The reading as replies and switching have it.
-    pub fn shown(self, unit: u8) -> Shown
+    pub fn shown(self, unit: u32) -> Shown
         ensures { λ r. ⌜ r ≡ shownOf self unit ⌝ }
     {
         Shown {

@@ -22,7 +22,7 @@ const FROM_HPA: [Ratio; 5] = [
 ];
 
 // The factor from hPa to a unit; a number that is no unit leaves hPa.
-pub fn from_hpa(unit: u8) -> Ratio
+pub fn from_hpa(unit: u32) -> Ratio
     ensures { λ r. ⌜ r ≡ fromHpa unit ⌝ }
 {
     let u = unit as usize;

@@ -6,8 +6,8 @@ use mathlib.Core.Bool.{Bool, true, false, cond}
 use mathlib.Core.Logic.{_≢_, ⊎-elim}
 use native.Mathlib.Omega.{arith}
 use borrow.Author.Tests.{eqb-true, eqb-false, lt-ltb}
-use lib.ListN.{length, getD, set, take}
-use lib.Seq.{drop-cons, getD-set-same, getD-set-other}
+use lib.ListN.{length, getD, set}
+use lib.Seq.{getD-set-same, getD-set-other}
 use lib.Dec.{T, ltb, eqb}
 use Rattle.text.proofs.Tables.{entry}
 use Rattle.numbers.specs.declared.threshold.Threshold.{Threshold}
@@ -29,6 +29,7 @@ use Rattle.settings.proofs.Lists.{Each, each-at, every-each}
 use Rattle.settings.proofs.Storing.{Holding, Shaped, canon, stored-row, stored-others, factor-row, factor-others}
 use Rattle.settings.proofs.Storing.Holding.{uni, fil, cal, dcd, sp, kept}
 use Rattle.settings.proofs.Places.{same-cell, fits-plain, cell, placed, row-places, places-row}
+use Rattle.settings.proofs.Tabled.{stored-kind}
 use Rattle.settings.proofs.Sheets.{same-or-apart, channel-kinds, within-rows, rows-within}
 
 -- what an accepted line hands over: its cells fit their kinds, and behind the last there is nothing
@@ -76,10 +77,6 @@ unfolding every
 table-numeric Tpg361 = refl
 table-numeric Tpg362 = refl
 
-stored-kind : (model : Model) (k : ℕ) → k < 9 → storedKinds model k ≡ getD (storedTable model) k (whole 0 1) ∷ []
-unfolding storedKinds
-stored-kind model k h = ap (take 1) (drop-cons (storedTable model) k (whole 0 1) (omega arith))
-
 -- so what a line hands over is read back unchanged
 pub fitting-canon : (model : Model) (r : Row) {x : Setting} → Holding x → Fitting (kinds model (Of x)) r → canon x r ≡ r
 fitting-canon model r uni f = sym (one-number r (whole 0 4) refl f)
@@ -93,7 +90,7 @@ fitting-canon model r (sp k h) f =
 fitting-canon model r (kept k h) f =
     sym (one-number r (getD (storedTable model) k (whole 0 1))
     (each-at (λ k. numeric k ≡ true) (storedTable model) (whole 0 1) refl (every-each numeric (storedTable model) (table-numeric model)) k)
-    (subst (λ ks. Fitting ks r) (stored-kind model k h) f))
+    (subst (λ ks. Fitting ks r) (stored-kind model k (whole 0 1) h) f))
 
 -- ---- limits are kept
 

@@ -3,7 +3,7 @@ use Prim.Native.Nat.{ℕ, zero, suc, _+_, _≤_, _<_}
 use mathlib.Core.Path.{_≡_, refl, sym, ap, _∙_, subst}
 use mathlib.Core.List.{List, [], _∷_}
 use mathlib.Core.Bool.{Bool, true, false, not, _&&_}
-use mathlib.Core.Logic.{_≢_, _⊎_, inl, inr, ⊎-elim}
+use mathlib.Core.Logic.{_≢_, _⊎_, inl, inr, ⊎-elim, _↔_}
 use native.Mathlib.Omega.{arith}
 use borrow.Author.Tests.{ltb-true, eqb-true, eqb-false, not-true}
 use lib.ListN.{length, getD, take, drop, length-take}
@@ -166,13 +166,14 @@ taken : (n i : ℕ) (r q : Row) → take n (listed r) ≡ take n (listed q) → 
 taken n i r q e h =
     sym (getD-take n (listed r) i (plain 0) h) ∙ ap (λ (l : List Threshold). getD l i (plain 0)) e ∙ getD-take n (listed q) i (plain 0) h
 
--- law (d) over a model's sheet: where the model has no field both have the default
-pub sheet-decide : (model : Model) (a b : Settings) → Shaped a → Shaped b → within model a ≡ true → within model b ≡ true
-    → Each (λ x. cells model a x ≡ cells model b x) (sheet model) → a ≡ b
-sheet-decide model a b sa sb wa wb e = rows-decide a b sa sb agree
+-- law (d) over a model's sheet: settings are equal exactly when their cells agree; where the model has no field both have the default
+pub sheet-decides : (model : Model) (a b : Settings) → Shaped a → Shaped b → within model a ≡ true → within model b ≡ true
+    → Each (λ x. cells model a x ≡ cells model b x) (sheet model) ↔ (a ≡ b)
+sheet-decides model a b sa sb wa wb =
+    ((λ e. rows-decide a b sa sb (agree e)), (λ e. each-all _ (λ x. ap (λ (s : Settings). cells model s x) e) (sheet model)))
   where
-    agree : (x : Setting) → Holding x → row a x ≡ row b x
-    agree x h =
+    agree : Each (λ x. cells model a x ≡ cells model b x) (sheet model) → (x : Setting) → Holding x → row a x ≡ row b x
+    agree e x h =
         let ks = kinds model (Of x) in
         let d = row (defaults model) x in
         rows-same (row a x) (row b x) (λ i l.

@@ -24,14 +24,16 @@ mosts = 3 ∷ 1 ∷ 1 ∷ 2 ∷ 24 ∷ 1 ∷ 2 ∷ 1 ∷ 6 ∷ []
 abbrev behindEra : List Kind
 behindEra = whole 0 1 ∷ whole 0 1 ∷ whole 0 2 ∷ whole 1 24 ∷ whole 0 1 ∷ whole 0 2 ∷ whole 0 1 ∷ whole 0 6 ∷ []
 
+pub stored-kind : (model : Model) (k : ℕ) (d : Kind) → k < 9 → storedKinds model k ≡ getD (storedTable model) k d ∷ []
+unfolding storedKinds
+stored-kind model k d h = ap (take 1) (drop-cons (storedTable model) k d h)
+
 -- every entry but the first is a plain range
 pub stored-entry : (model : Model) (k : ℕ) → k < 9 → (k ≡ 0 → ⊥) → storedKinds model k ≡ whole (getD leasts k 0) (getD mosts k 0) ∷ []
-unfolding storedKinds
 stored-entry model zero h n = absurd (n refl)
 stored-entry model (suc j) h n =
-    let l : j < 8 = omega arith in
-    ap (take 1) (drop-cons behindEra j Threshold l)
-    ∙ ap (λ (k : Kind). k ∷ []) (sym (tabled (λ j. whole (getD leasts (suc j) 0) (getD mosts (suc j) 0)) 8 behindEra refl j Threshold l))
+    stored-kind model (suc j) Threshold h
+    ∙ ap (λ (k : Kind). k ∷ []) (sym (tabled (λ j. whole (getD leasts (suc j) 0) (getD mosts (suc j) 0)) 8 behindEra refl j Threshold (omega arith)))
 
 pub stored-past : (model : Model) (k : ℕ) → 9 ≤ k → storedKinds model k ≡ []
 unfolding storedKinds

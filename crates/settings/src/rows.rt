@@ -162,7 +162,7 @@ impl Settings {
     }
 
     // The settings after an accepted line has written the cells r.
-    pub fn after(self, model: Model, m: Mnemonic, r: Row) -> Settings
+    pub fn store(self, model: Model, m: Mnemonic, r: Row) -> Settings
         ensures { λ s. ⌜ s ≡ stored model self m r ⌝ }
     {
         match m {

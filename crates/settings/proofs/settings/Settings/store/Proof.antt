@@ -5,8 +5,8 @@ use lib.Seq.{set-out}
 use Rattle.settings.specs.Rows.{withFactors, number}
 use borrow.Author.Needs.{needs}
 use native.Mathlib.Omega.{arith}
-use Rattle.settings.proofs.settings.Settings.after.Statement.{statement}
-use Rattle.settings.proofs.settings.Settings.after.Tie as tie
+use Rattle.settings.proofs.settings.Settings.store.Statement.{statement}
+use Rattle.settings.proofs.settings.Settings.store.Tie as tie
 
 enum-known-m : tie.Need-enum-known-m
 enum-known-m c = search needs
@@ -66,8 +66,8 @@ returns-5 c = rw (c .enum-told2 .given .1)
 returns-6 : tie.Need-returns-6
 returns-6 c = rw (c .enum-told3 .given .1)
 
-pub after-spec : {M : Type 1} → statement M
-after-spec =
+pub store-spec : {M : Type 1} → statement M
+store-spec =
     tie.close
     (tie.spec
     enum-known-m

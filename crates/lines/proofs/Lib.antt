@@ -1,2 +1,6 @@
 pub mod Walking
 pub mod Written
+pub mod ReadBack
+pub mod Accepted
+pub mod Kept
+pub mod PaperRows

@@ -82,6 +82,19 @@ fn switch_put(switching: [Switching; 4], k: u8, r: Row) -> [Switching; 4]
     after
 }
 
+// The factor of channel k replaced.
+fn factor_put(factors: [u32; 2], k: u8, n: u32) -> [u32; 2]
+    ensures { λ r. ⌜ r ≡ set factors k n ⌝ }
+{
+    let i = k as usize;
+    let mut after = factors;
+    if i < 2 {
+        after[i] = n;
+        return after;
+    }
+    after
+}
+
 fn either(on: bool, a: Threshold, b: Threshold) -> Threshold
     ensures { λ r. ⌜ r ≡ cond on a b ⌝ }
 {
@@ -172,12 +185,10 @@ impl Settings {
             }
             Mnemonic::Cf(k) => {
                 let a = r.first;
-                let i = k as usize;
+                let before = self.factors;
+                let after = factor_put(before, k, a.mantissa);
                 let mut s = self;
-                if i < 2 {
-                    s.factors[i] = a.mantissa;
-                    return s;
-                }
+                s.factors = after;
                 s
             }
             Mnemonic::Query(_) => self,

@@ -1,0 +1,230 @@
+-- What an accepted line writes fits its fields, so it keeps the limits of the settings.
+use Prim.Native.Nat.{ℕ, zero, suc, _≤_, _<_}
+use mathlib.Core.Path.{_≡_, refl, sym, ap, _∙_, subst}
+use mathlib.Core.List.{List, [], _∷_, map}
+use mathlib.Core.Bool.{true, _&&_}
+use mathlib.Core.Logic.{⊎-elim}
+use native.Mathlib.Omega.{arith}
+use borrow.Author.Tests.{ltb-true, eqb-true, lt-ltb, le-ltb}
+use lib.ListN.{length, getD, List·getD-eq-default}
+use lib.Dec.{eqb, leb, ltb}
+use Rattle.numbers.specs.declared.threshold.Threshold.{Threshold}
+use Rattle.numbers.proofs.Cases.{below, cond-cases}
+use Rattle.numerals.specs.Whole.{wholeOf, factorOf}
+use Rattle.numerals.specs.Threshold.{thresholdOf}
+use Rattle.numerals.specs.declared.whole.Numeral.{Numeral}
+use Rattle.numerals.specs.declared.whole.Numeral.the-variants.{Number, Malformed as NoNumber}
+use Rattle.numerals.specs.declared.threshold.ThresholdNumeral.{ThresholdNumeral}
+use Rattle.numerals.specs.declared.threshold.ThresholdNumeral.the-variants.{Within, Malformed as NoThreshold, OutOfRange}
+use Rattle.numerals.proofs.Stops.{read-within}
+use Rattle.settings.specs.Models.{channels}
+use Rattle.settings.specs.Mnemonics.{known, name, same, found, recognised, channelOf}
+use Rattle.settings.specs.Kinds.{kinds}
+use Rattle.settings.specs.Rows.{plain, pairRow, stored}
+use Rattle.settings.specs.Limits.{inside, fits, placeWithin, within}
+use Rattle.settings.specs.declared.model.Model.{Model}
+use Rattle.settings.specs.declared.mnemonic.Mnemonic.{Mnemonic}
+use Rattle.settings.specs.declared.mnemonic.Mnemonic.the-variants.{Setting as Of, Cf, Query as Asked, Com, Sav}
+use Rattle.settings.specs.declared.mnemonic.Named.{Named}
+use Rattle.settings.specs.declared.mnemonic.Named.the-variants.{Known, Unknown}
+use Rattle.settings.specs.declared.kinds.Limits.{Limits}
+use Rattle.settings.specs.declared.kinds.Kind.{Kind}
+use Rattle.settings.specs.declared.kinds.Kind.the-variants.{Whole, Factor, Threshold as Level}
+use Rattle.settings.specs.declared.rows.Row.{Row}
+use Rattle.settings.specs.declared.settings.Settings.{Settings}
+use Rattle.settings.proofs.Lists.{Each}
+use Rattle.settings.proofs.Places.{cell, places-row}
+use Rattle.settings.proofs.Storing.{Holding, Shaped}
+use Rattle.settings.proofs.Sheets.{sheet-holding}
+use Rattle.settings.proofs.Keeping.{Fitting, stored-within, factor-within}
+use Rattle.lines.specs.Splitting.{fields}
+use Rattle.lines.specs.Fields.{limited, ranged, thresholdField, read}
+use Rattle.lines.specs.Judging.{readings, formed, valued, cellOf, rowOf, judgedFields, alone, withFields, named, parted, judged}
+use Rattle.lines.specs.declared.verdict.Fault.the-variants.{Syntax, Parameter, Hardware}
+use Rattle.lines.specs.declared.verdict.Field.{Field}
+use Rattle.lines.specs.declared.verdict.Field.the-variants.{Held, Malformed, Faulty}
+use Rattle.lines.specs.declared.verdict.Verdict.{Verdict}
+use Rattle.lines.specs.declared.verdict.Verdict.the-variants.{Writes, Refused}
+use Rattle.lines.proofs.Accepted.{AllFit, judged-parts, known-each}
+use Rattle.lines.proofs.Accepted.AllFit.{none, next}
+
+-- nothing is two of its cases at once
+never : {A : Type 0} → _≡_ {A = ℕ} 0 1 → A
+never z = absurd (omega arith)
+
+-- ---- a field that is held
+
+limited-fits : (l : Limits) (n : ℕ) (c : Threshold) → limited l n ≡ Held c → inside l c ≡ true
+unfolding limited
+limited-fits l n c =
+    cond-cases Fit (leb (l .least) n && leb n (l .most)) (Held (plain n)) _
+    (λ t e. let s : plain n ≡ c = cc in subst (λ x. inside l x ≡ true) s t)
+    (λ _. cond-cases Fit (leb (l .least) n && leb n (l .reach)) (Faulty Hardware) (Faulty Parameter)
+    (λ _ e. never (cc)) (λ _ e. never (cc)))
+  where
+    Fit : Field → Type 0
+    Fit f = f ≡ Held c → inside l c ≡ true
+
+number-fits : (l : Limits) (n : Numeral) (c : Threshold) → ranged l n ≡ Held c → inside l c ≡ true
+number-fits l (Number n) c e = limited-fits l n c e
+number-fits l NoNumber c e = never (cc)
+
+threshold-held : (t : ThresholdNumeral) (c : Threshold) → thresholdField t ≡ Held c → t ≡ Within c
+threshold-held (Within d) c e = ap Within (let s : d ≡ c = cc in s)
+threshold-held NoThreshold c e = never (cc)
+threshold-held OutOfRange c e = never (cc)
+
+-- what a field reads is what it may hold
+pub read-fits : (k : Kind) (s : List ℕ) (c : Threshold) → read k s ≡ Held c → fits k c ≡ true
+read-fits (Whole l) s c e = number-fits l (wholeOf s) c e
+read-fits (Factor l) s c e = number-fits l (factorOf s) c e
+read-fits Level s c e = read-within s c (threshold-held (thresholdOf s) c e)
+
+-- ---- a line writes only if all its fields are held
+
+Holds : Field → Type 0
+Holds f = f ≡ Held (cellOf f)
+
+module _ (m : Mnemonic) (r : Row) where
+  formed-out : (rs : List Field) (v : Verdict) → formed rs v ≡ Writes m r → v ≡ Writes m r
+  unfolding formed
+  formed-out [] v e = e
+  formed-out (Held c ∷ rs) v e = formed-out rs v e
+  formed-out (Faulty x ∷ rs) v e = formed-out rs v e
+  formed-out (Malformed ∷ rs) v e = never (cc)
+
+  all-hold : (rs : List Field) (v w : Verdict) → formed rs v ≡ Writes m r → valued rs w ≡ Writes m r → Each Holds rs × (w ≡ Writes m r)
+  unfolding formed valued Holds
+  all-hold [] v w a b = (tt, b)
+  all-hold (Held c ∷ rs) v w a b = let p = all-hold rs v w a b in ((refl, p .0), p .1)
+  all-hold (Faulty x ∷ rs) v w a b = never (cc)
+  all-hold (Malformed ∷ rs) v w a b = never (cc)
+
+fit-readings : (ks : List Kind) (fs : List (List ℕ)) → length fs ≡ length ks → Each Holds (readings ks fs) → AllFit ks (map cellOf (readings ks fs))
+unfolding readings Holds
+fit-readings [] [] e h = none
+fit-readings [] (f ∷ fs) e h = absurd (omega arith)
+fit-readings (k ∷ ks) [] e h = absurd (omega arith)
+fit-readings (k ∷ ks) (f ∷ fs) e h = next (read-fits k f (cellOf (read k f)) (h .0)) (fit-readings ks fs (omega arith) (h .1))
+
+-- ---- as a row
+
+-- cells that fit their kinds do so at each place, and there are no others
+fit-at : {ks : List Kind} {cs : List Threshold} → AllFit ks cs → (i : ℕ) → i < length ks → fits (getD ks i Level) (getD cs i (plain 0)) ≡ true
+fit-at none i l = absurd (omega arith)
+fit-at (next h f) zero l = h
+fit-at (next h f) (suc i) l = fit-at f i (omega arith)
+
+fit-count : {ks : List Kind} {cs : List Threshold} → AllFit ks cs → length cs ≡ length ks
+fit-count none = refl
+fit-count (next h f) = ap suc (fit-count f)
+
+row-cell : (cs : List Threshold) (i : ℕ) → i < 3 → cell (rowOf cs) i ≡ getD cs i (plain 0)
+row-cell cs zero h = refl
+row-cell cs (suc zero) h = refl
+row-cell cs (suc (suc zero)) h = refl
+row-cell cs (suc (suc (suc i))) h = absurd (omega arith)
+
+row-fitting : (ks : List Kind) (cs : List Threshold) → AllFit ks cs → Fitting ks (rowOf cs)
+row-fitting ks cs f = places-row ks (rowOf cs) (pairRow 0 0) (λ i h. rw (row-cell cs i h, row-cell [] i h) (at i))
+  where
+    at : (i : ℕ) → placeWithin (ltb i (length ks)) (getD ks i Level) (getD cs i (plain 0)) (plain 0) ≡ true
+    at i =
+        ⊎-elim (λ (l : i < length ks). rw (lt-ltb i (length ks) l) (fit-at f i l))
+        (λ (g : length ks ≤ i). let n : length cs ≤ i = omega (arith, fit-count f) in rw (le-ltb i (length ks) g, List·getD-eq-default cs (plain 0) n))
+        (below i (length ks))
+
+-- ---- what a line needs to be accepted
+
+record Admitted (model : Model) (m : Mnemonic) (r : Row) : Type 0 where
+  word : List ℕ
+  known : recognised model word ≡ Known m
+  there : channelOf m < channels model
+  fitting : Fitting (kinds model m) r
+
+module _ (model : Model) (m : Mnemonic) (r : Row) where
+  -- COM and SAV alone write their defaults
+  alone-fitting : (n : Mnemonic) → alone n ≡ Writes m r → (n ≡ m) × Fitting (kinds model n) r
+  alone-fitting (Of x) e = never (cc)
+  alone-fitting (Cf k) e = never (cc)
+  alone-fitting (Asked q) e = never (cc)
+  alone-fitting Com e = let s : pairRow 1 0 ≡ r = cc in (cc, subst (Fitting (kinds model Com)) s refl)
+  alone-fitting Sav e = let s : pairRow 0 0 ≡ r = cc in (cc, subst (Fitting (kinds model Sav)) s refl)
+
+  fields-fitting : (n : Mnemonic) (fs : List (List ℕ)) → length fs ≡ length (kinds model n) → judgedFields n (readings (kinds model n) fs) ≡ Writes m r
+      → (n ≡ m) × Fitting (kinds model n) r
+  fields-fitting n fs c e =
+      let ks = kinds model n in
+      let rs = readings ks fs in
+      let v = valued rs (Writes n (rowOf (map cellOf rs))) in
+      let p = all-hold m r rs v (Writes n (rowOf (map cellOf rs))) e (formed-out m r rs v e) in
+      let q : Writes n (rowOf (map cellOf rs)) ≡ Writes m r = p .1 in
+      let s : rowOf (map cellOf rs) ≡ r = cc in
+      (cc, subst (Fitting ks) s (row-fitting ks (map cellOf rs) (fit-readings ks fs c (p .0))))
+
+  with-fitting : (n : Mnemonic) (fs : List (List ℕ)) → withFields model n fs ≡ Writes m r → (n ≡ m) × Fitting (kinds model n) r
+  unfolding withFields
+  with-fitting n [] = alone-fitting n
+  with-fitting n (f ∷ fs) =
+      cond-cases (λ v. v ≡ Writes m r → (n ≡ m) × Fitting (kinds model n) r) (eqb (length (f ∷ fs)) (length (kinds model n)))
+      (judgedFields n (readings (kinds model n) (f ∷ fs))) (Refused Syntax)
+      (λ t. fields-fitting n (f ∷ fs) (eqb-true (length (f ∷ fs)) (length (kinds model n)) t))
+      (λ _ e. never (cc))
+
+  named-admitted : (word : List ℕ) (fs : List (List ℕ)) (n : Named) → recognised model word ≡ n → named model n fs ≡ Writes m r → Admitted model m r
+  named-admitted word fs Unknown k e = never (cc)
+  named-admitted word fs (Known n) k e =
+      cond-cases (λ v. v ≡ Writes m r → Admitted model m r) (ltb (channelOf n) (channels model)) (withFields model n fs) (Refused Hardware)
+      (λ t w. let p = with-fitting n fs w in
+      subst (λ n. Admitted model n r) (p .0) (record { word = word; known = k; there = ltb-true (channelOf n) (channels model) t; fitting = p .1 }))
+      (λ _ w. never (cc)) e
+
+  parts-admitted : (parts : List (List ℕ)) → parted model parts ≡ Writes m r → Admitted model m r
+  parts-admitted [] e = never (cc)
+  parts-admitted (word ∷ fs) e = named-admitted word fs (recognised model word) refl e
+
+-- what is found in a list is a member of it
+found-each : (P : Mnemonic → Type 0) (word : List ℕ) (ms : List Mnemonic) (m : Mnemonic) → found word ms ≡ Known m → Each P ms → P m
+unfolding found
+found-each P word [] m e p = never (cc)
+found-each P word (n ∷ ms) m e p =
+    cond-cases (λ v. v ≡ Known m → P m) (same (name n) word) (Known n) (found word ms)
+    (λ _ q. let s : n ≡ m = cc in subst P s (p .0)) (λ _ q. found-each P word ms m q (p .1)) e
+
+module _ (model : Model) (line : List ℕ) (m : Mnemonic) (r : Row) (e : judged model line ≡ Writes m r) where
+  admitted : Admitted model m r
+  admitted = parts-admitted model m r (fields line) (sym (judged-parts model line) ∙ e)
+
+  pub writes-fitting : Fitting (kinds model m) r
+  writes-fitting = admitted .fitting
+
+  pub writes-there : channelOf m < channels model
+  writes-there = admitted .there
+
+  pub writes-known : (P : Mnemonic → Type 0) → Each P (known model) → P m
+  unfolding recognised
+  writes-known P = found-each P (admitted .word) (known model) m (admitted .known)
+
+-- ---- the settings
+
+-- a setting that is known is one that the arrays hold
+abbrev Kept : Mnemonic → Type 0
+Kept (Of x) = Holding x
+Kept (Cf k) = Unit {0}
+Kept (Asked q) = Unit {0}
+Kept Com = Unit {0}
+Kept Sav = Unit {0}
+
+-- of the others there is nothing to say
+known-kept : (model : Model) → Each Kept (known model)
+known-kept model = known-each Kept model (sheet-holding model) (omega arith)
+
+pub line-within : (model : Model) (s : Settings) (line : List ℕ) (m : Mnemonic) (r : Row) → Shaped s → within model s ≡ true → judged model line ≡ Writes m r
+    → within model (stored model s m r) ≡ true
+line-within model s line (Of x) r sh w e =
+    stored-within model s r sh (writes-known model line (Of x) r e Kept (known-kept model)) w (writes-fitting model line (Of x) r e)
+line-within model s line (Cf k) r sh w e =
+    factor-within model s r k sh (writes-there model line (Cf k) r e) w (writes-fitting model line (Cf k) r e)
+line-within model s line (Asked q) r sh w e = w
+line-within model s line Com r sh w e = w
+line-within model s line Sav r sh w e = w

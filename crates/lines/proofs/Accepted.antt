@@ -11,7 +11,7 @@ use lib.Dec.{eqb, ltb}
 use Rattle.numbers.specs.declared.threshold.Threshold.{Threshold}
 use Rattle.numbers.proofs.Cases.{and-true}
 use Rattle.settings.specs.Models.{channels, defaults}
-use Rattle.settings.specs.Mnemonics.{sheet, others, known, name, same, found, recognised, channelOf}
+use Rattle.settings.specs.Mnemonics.{sheet, known, name, same, found, recognised, channelOf}
 use Rattle.settings.specs.Kinds.{kinds, storedKinds}
 use Rattle.settings.specs.Rows.{plain, row, listed, cells}
 use Rattle.settings.specs.Limits.{fits, every, within}
@@ -25,10 +25,9 @@ use Rattle.settings.specs.declared.kinds.Kind.{Kind}
 use Rattle.settings.specs.declared.kinds.Kind.the-variants.{Threshold as Level}
 use Rattle.settings.specs.declared.settings.Settings.{Settings}
 use Rattle.settings.proofs.Lists.{Each, each-map, each-both, every-each, map-each}
-use Rattle.settings.proofs.Names.{not-three}
 use Rattle.settings.proofs.Places.{row-places}
 use Rattle.settings.proofs.Storing.{Holding}
-use Rattle.settings.proofs.Sheets.{sheet-holding, on-sheet, few, within-rows}
+use Rattle.settings.proofs.Sheets.{sheet-holding, on-sheet, few, within-rows, sheet-each}
 use Rattle.lines.specs.Splitting.{fields, joined}
 use Rattle.lines.specs.Judging.{readings, formed, valued, cellOf, rowOf, judgedFields, withFields, parted, judged}
 use Rattle.lines.specs.Replies.{texts, settingText}
@@ -36,6 +35,7 @@ use Rattle.lines.specs.declared.verdict.Field.{Field}
 use Rattle.lines.specs.declared.verdict.Field.the-variants.{Held}
 use Rattle.lines.specs.declared.verdict.Verdict.{Verdict}
 use Rattle.lines.specs.declared.verdict.Verdict.the-variants.{Writes}
+use Rattle.lines.proofs.Walking.{judged-parts}
 use Rattle.lines.proofs.ReadBack.{Plain, plain-written, sound, reads-back}
 
 -- ---- fields of what was joined
@@ -58,12 +58,6 @@ pub plain-texts : (ks : List Kind) (cs : List Threshold) → Each Plain (texts k
 plain-texts [] cs = tt
 plain-texts (k ∷ ks) [] = tt
 plain-texts (k ∷ ks) (c ∷ cs) = (plain-written k c, plain-texts ks cs)
-
--- the empty line names nothing, so it too is judged by its parts
-pub judged-parts : (model : Model) (line : List ℕ) → judged model line ≡ parted model (fields line)
-unfolding judged fields
-judged-parts model [] = rw (not-three model [] (λ e. omega arith))
-judged-parts model (b ∷ line) = refl
 
 -- ---- fields read back
 
@@ -100,30 +94,6 @@ all-held m cs =
     held-formed cs (valued (map Held cs) (Writes m (rowOf (map cellOf (map Held cs)))))
     ∙ held-valued cs (Writes m (rowOf (map cellOf (map Held cs))))
     ∙ ap (λ (l : List Threshold). Writes m (rowOf l)) (held-cells cs)
-
--- ---- all that are known: those of the sheet, and the others
-
-module _ (P : Mnemonic → Type 0) where
-  each-parts : (xs : List Setting) (ms : List Mnemonic) → Each P (map Of xs ++ ms) → Each (λ x. P (Of x)) xs × Each P ms
-  each-parts [] ms e = (tt, e)
-  each-parts (x ∷ xs) ms e = let p = each-parts xs ms (e .1) in ((e .0, p .0), p .1)
-
-  each-whole : (xs : List Setting) (ms : List Mnemonic) → Each (λ x. P (Of x)) xs → Each P ms → Each P (map Of xs ++ ms)
-  each-whole [] ms e f = f
-  each-whole (x ∷ xs) ms e f = (e .0, each-whole xs ms (e .1) f)
-
-  module _ (model : Model) where
-    pub sheet-each : Each P (known model) → Each (λ x. P (Of x)) (sheet model)
-    unfolding known
-    sheet-each e = each-parts (sheet model) others e .0
-
-    pub others-each : Each P (known model) → Each P others
-    unfolding known
-    others-each e = each-parts (sheet model) others e .1
-
-    pub known-each : Each (λ x. P (Of x)) (sheet model) → Each P others → Each P (known model)
-    unfolding known
-    known-each = each-whole (sheet model) others
 
 -- ---- what the tables say of a mnemonic
 

@@ -9,7 +9,7 @@ use borrow.Author.Tests.{ltb-true, eqb-true, lt-ltb, le-ltb}
 use lib.ListN.{length, getD, List·getD-eq-default}
 use lib.Dec.{eqb, leb, ltb}
 use Rattle.numbers.specs.declared.threshold.Threshold.{Threshold}
-use Rattle.numbers.proofs.Cases.{below, cond-cases}
+use Rattle.numbers.proofs.Cases.{below, cond-cases, never}
 use Rattle.numerals.specs.Whole.{wholeOf, factorOf}
 use Rattle.numerals.specs.Threshold.{thresholdOf}
 use Rattle.numerals.specs.declared.whole.Numeral.{Numeral}
@@ -34,23 +34,21 @@ use Rattle.settings.specs.declared.rows.Row.{Row}
 use Rattle.settings.specs.declared.settings.Settings.{Settings}
 use Rattle.settings.proofs.Lists.{Each}
 use Rattle.settings.proofs.Places.{cell, places-row}
-use Rattle.settings.proofs.Storing.{Holding, Shaped}
-use Rattle.settings.proofs.Sheets.{sheet-holding}
+use Rattle.settings.proofs.Storing.{Holding, Shaped, stored-shaped}
+use Rattle.settings.proofs.Sheets.{sheet-holding, known-each}
 use Rattle.settings.proofs.Keeping.{Fitting, stored-within, factor-within}
 use Rattle.lines.specs.Splitting.{fields}
 use Rattle.lines.specs.Fields.{limited, ranged, thresholdField, read}
-use Rattle.lines.specs.Judging.{readings, formed, valued, cellOf, rowOf, judgedFields, alone, withFields, named, parted, judged}
+use Rattle.lines.specs.Judging.{readings, formed, valued, cellOf, rowOf, judgedFields, alone, withFields, named, parted, judged, effect}
+use Rattle.lines.specs.declared.verdict.Fault.{Fault}
 use Rattle.lines.specs.declared.verdict.Fault.the-variants.{Syntax, Parameter, Hardware}
 use Rattle.lines.specs.declared.verdict.Field.{Field}
 use Rattle.lines.specs.declared.verdict.Field.the-variants.{Held, Malformed, Faulty}
 use Rattle.lines.specs.declared.verdict.Verdict.{Verdict}
-use Rattle.lines.specs.declared.verdict.Verdict.the-variants.{Writes, Refused}
-use Rattle.lines.proofs.Accepted.{AllFit, judged-parts, known-each}
+use Rattle.lines.specs.declared.verdict.Verdict.the-variants.{Asks, Writes, Refused}
+use Rattle.lines.proofs.Walking.{judged-parts}
+use Rattle.lines.proofs.Accepted.{AllFit}
 use Rattle.lines.proofs.Accepted.AllFit.{none, next}
-
--- nothing is two of its cases at once
-never : {A : Type 0} → _≡_ {A = ℕ} 0 1 → A
-never z = absurd (omega arith)
 
 -- ---- a field that is held
 
@@ -219,7 +217,7 @@ Kept Sav = Unit {0}
 known-kept : (model : Model) → Each Kept (known model)
 known-kept model = known-each Kept model (sheet-holding model) (omega arith)
 
-pub line-within : (model : Model) (s : Settings) (line : List ℕ) (m : Mnemonic) (r : Row) → Shaped s → within model s ≡ true → judged model line ≡ Writes m r
+line-within : (model : Model) (s : Settings) (line : List ℕ) (m : Mnemonic) (r : Row) → Shaped s → within model s ≡ true → judged model line ≡ Writes m r
     → within model (stored model s m r) ≡ true
 line-within model s line (Of x) r sh w e =
     stored-within model s r sh (writes-known model line (Of x) r e Kept (known-kept model)) w (writes-fitting model line (Of x) r e)
@@ -228,3 +226,25 @@ line-within model s line (Cf k) r sh w e =
 line-within model s line (Asked q) r sh w e = w
 line-within model s line Com r sh w e = w
 line-within model s line Sav r sh w e = w
+
+-- no line takes the settings out of their limits
+module _ (model : Model) (s : Settings) (line : List ℕ) (sh : Shaped s) (w : within model s ≡ true) where
+  pub effect-within : within model (effect model s (judged model line)) ≡ true
+  effect-within = by (judged model line) refl
+    where
+      by : (v : Verdict) → judged model line ≡ v → within model (effect model s v) ≡ true
+      by (Asks m) e = w
+      by (Writes m r) e = line-within model s line m r sh w e
+      by (Refused x) e = w
+
+  pub effect-shaped : Shaped (effect model s (judged model line))
+  effect-shaped = by (judged model line)
+    where
+      by : (v : Verdict) → Shaped (effect model s v)
+      by (Asks m) = sh
+      by (Writes m r) = stored-shaped model s r m sh
+      by (Refused x) = sh
+
+-- a refused line leaves the settings as they were
+pub refused-nothing : (model : Model) (s : Settings) (line : List ℕ) (x : Fault) → judged model line ≡ Refused x → effect model s (judged model line) ≡ s
+refused-nothing model s line x e = rw e

@@ -3,4 +3,4 @@ pub mod Written
 pub mod ReadBack
 pub mod Accepted
 pub mod Kept
-pub mod PaperRows
+pub mod Rows

@@ -6,7 +6,7 @@ use mathlib.Core.List.{List, [], _∷_}
 use mathlib.Core.Bool.{Bool, true, false, cond}
 use native.Mathlib.Omega.{arith}
 use native.Mathlib.Numerals.{add-one}
-use borrow.Author.Tests.{eq-eqb, ne-eqb, eqb-true, eqb-false, lt-ltb, le-ltb, ltb-true, ltb-false}
+use borrow.Author.Tests.{eq-eqb, ne-eqb, eqb-true, eqb-false, lt-ltb, le-ltb}
 use lib.ListN.{length, getD, take, drop, drop-of-length-le, length-drop}
 use lib.Seq.{drop-cons, drop-drop}
 use lib.Dec.{eqb, ltb}
@@ -21,7 +21,7 @@ use Rattle.settings.specs.declared.model.Model.{Model}
 use Rattle.settings.specs.declared.mnemonic.Mnemonic.{Mnemonic}
 use Rattle.settings.specs.declared.mnemonic.Mnemonic.the-variants.{Setting as Of, Cf, Query as Asked, Com, Sav}
 use Rattle.settings.specs.declared.mnemonic.Named.{Named}
-use Rattle.settings.specs.declared.mnemonic.Named.the-variants.{Known, Unknown}
+use Rattle.settings.specs.declared.mnemonic.Named.the-variants.{Known}
 use Rattle.settings.specs.declared.kinds.Kind.{Kind}
 use Rattle.settings.specs.declared.kinds.Kind.the-variants.{Threshold as Level}
 use Rattle.settings.specs.declared.kinds.Kinds.{Kinds}
@@ -30,7 +30,7 @@ use Rattle.settings.proofs.Sheets.{few}
 use Rattle.lines.specs.Splitting.{fields, onFirst, word, behind}
 use Rattle.lines.specs.Fields.{read}
 use Rattle.lines.specs.Judging.{readings, formed, valued, judgedFields, alone, withFields, named, parted, judged}
-use Rattle.lines.specs.Walk.{headField, beyond, Taken, knownLine}
+use Rattle.lines.specs.Walk.{headField, beyond, Taken}
 use Rattle.lines.specs.declared.verdict.Fault.the-variants.{Syntax, Hardware}
 use Rattle.lines.specs.declared.verdict.Field.{Field}
 use Rattle.lines.specs.declared.verdict.Field.the-variants.{Held}
@@ -88,6 +88,14 @@ last-of s h = by (eqb (length (word s)) (length s)) refl
     by true e = split s .0 (eqb-true (length (word s)) (length s) e)
     by false e =
         absurd (omega (arith, some-fields (behind s), ap length (split s .1 (omega (arith, word-short s, eqb-false (length (word s)) (length s) e)))))
+
+-- either way the word is the first field
+first-field : (s : List ℕ) → fields s ≡ word s ∷ drop 1 (fields s)
+first-field s = by (eqb (length (word s)) (length s)) refl
+  where
+    by : (t : Bool) → eqb (length (word s)) (length s) ≡ t → fields s ≡ word s ∷ drop 1 (fields s)
+    by true e = rw (split s .0 (eqb-true (length (word s)) (length s) e))
+    by false e = rw (split s .1 (omega (arith, word-short s, eqb-false (length (word s)) (length s) e)))
 
 -- ---- one byte more
 
@@ -217,46 +225,29 @@ module _ (model : Model) (m : Mnemonic) (ks : Kinds) (e : ks ≡ packed (kinds m
 
 -- ---- a whole line
 
-module _ (model : Model) (m : Mnemonic) (s : List ℕ) (e : ℕ) where
-  pub known-more : channelOf m < channels model → e < length s → withFields model m (fields (drop (e + 1) s)) ≡ knownLine model m s e
-  unfolding knownLine
-  known-more p h = rw (lt-ltb (channelOf m) (channels model) p, lt-ltb e (length s) h)
+-- a known mnemonic that ends at the place e
+module _ (model : Model) (m : Mnemonic) (s : List ℕ) (e : ℕ) (q : e ≡ length (word s)) where
+  pub known-more : channelOf m < channels model → e < length s → withFields model m (fields (drop (e + 1) s)) ≡ named model (Known m) (drop 1 (fields s))
+  known-more p h =
+      let n : e + 1 ≡ suc (length (word s)) = omega arith in
+      rw (lt-ltb (channelOf m) (channels model) p, split s .1 (omega arith)) (ap (λ (k : ℕ). withFields model m (fields (drop k s))) n)
 
-  pub known-alone : channelOf m < channels model → length s ≤ e → alone m ≡ knownLine model m s e
-  unfolding knownLine
-  known-alone p h = rw (lt-ltb (channelOf m) (channels model) p, le-ltb e (length s) h)
+  pub known-alone : channelOf m < channels model → length s ≤ e → alone m ≡ named model (Known m) (drop 1 (fields s))
+  unfolding withFields
+  known-alone p h = rw (lt-ltb (channelOf m) (channels model) p, split s .0 (omega (arith, word-short s)))
 
-  pub known-not : channels model ≤ channelOf m → Refused Hardware ≡ knownLine model m s e
-  unfolding knownLine
-  known-not p = rw (le-ltb (channelOf m) (channels model) p)
+pub known-not : (model : Model) (m : Mnemonic) (fs : List (List ℕ)) → channels model ≤ channelOf m → Refused Hardware ≡ named model (Known m) fs
+known-not model m fs p = rw (le-ltb (channelOf m) (channels model) p)
 
 module _ (model : Model) where
-  -- an empty line has no known mnemonic, so the first test needs no code of its own
-  first-field : (s : List ℕ) → judged model s ≡ named model (recognised model (word s)) (drop 1 (fields s))
-  unfolding judged word fields
-  first-field [] = sym (rw (not-three model [] (λ e. omega arith)))
-  first-field (b ∷ s) = by (eqb (length (word (b ∷ s))) (length (b ∷ s))) refl
-    where
-      by : (t : Bool) → eqb (length (word (b ∷ s))) (length (b ∷ s)) ≡ t
-          → parted model (fields (b ∷ s)) ≡ named model (recognised model (word (b ∷ s))) (drop 1 (fields (b ∷ s)))
-      by true e = rw (split (b ∷ s) .0 (eqb-true (length (word (b ∷ s))) (length (b ∷ s)) e))
-      by false e = rw (split (b ∷ s) .1 (omega (arith, word-short (b ∷ s), eqb-false (length (word (b ∷ s))) (length (b ∷ s)) e)))
+  -- the empty line names nothing, so it too is judged by its parts, and the first test needs no code of its own
+  pub judged-parts : (line : List ℕ) → judged model line ≡ parted model (fields line)
+  unfolding judged fields
+  judged-parts [] = rw (not-three model [] (λ e. omega arith))
+  judged-parts (b ∷ line) = refl
 
-  module _ (s : List ℕ) where
-    pub line-unknown : recognised model (word s) ≡ Unknown → Refused Syntax ≡ judged model s
-    line-unknown p = sym (first-field s ∙ ap (λ (c : Named). named model c (drop 1 (fields s))) p)
-
-    pub line-known : (m : Mnemonic) → recognised model (word s) ≡ Known m → (e : ℕ) → e ≡ length (word s) → knownLine model m s e ≡ judged model s
-    unfolding knownLine withFields
-    line-known m p e q = sym (first-field s ∙ ap (λ (c : Named). named model c (drop 1 (fields s))) p ∙ by (ltb e (length s)) refl)
-      where
-        by : (t : Bool) → ltb e (length s) ≡ t → cond (ltb (channelOf m) (channels model)) (withFields model m (drop 1 (fields s))) (Refused Hardware)
-            ≡ cond (ltb (channelOf m) (channels model)) (cond t (withFields model m (fields (drop (e + 1) s))) (alone m)) (Refused Hardware)
-        by true l =
-            let h = ltb-true e (length s) l in
-            let n : suc (length (word s)) ≡ e + 1 = omega arith in
-            rw (split s .1 (omega arith)) (ap (λ (k : ℕ). cond (ltb (channelOf m) (channels model)) (withFields model m (fields (drop k s))) (Refused Hardware)) n)
-        by false l = let h = ltb-false e (length s) l in rw (split s .0 (omega (arith, word-short s)))
+  pub line-named : (s : List ℕ) (c : Named) → recognised model (word s) ≡ c → named model c (drop 1 (fields s)) ≡ judged model s
+  line-named s c p = sym (judged-parts s ∙ ap (parted model) (first-field s) ∙ ap (λ (c : Named). named model c (drop 1 (fields s))) p)
 
 -- ---- the mnemonic at the front of a line
 

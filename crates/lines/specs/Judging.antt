@@ -8,7 +8,7 @@ use Rattle.numbers.specs.declared.threshold.Threshold.{Threshold}
 use Rattle.settings.specs.Models.{channels}
 use Rattle.settings.specs.Mnemonics.{recognised, channelOf}
 use Rattle.settings.specs.Kinds.{kinds}
-use Rattle.settings.specs.Rows.{plain, pairRow}
+use Rattle.settings.specs.Rows.{plain, pairRow, stored}
 use Rattle.settings.specs.declared.model.Model.{Model}
 use Rattle.settings.specs.declared.mnemonic.Mnemonic.{Mnemonic}
 use Rattle.settings.specs.declared.mnemonic.Mnemonic.the-variants.{Setting as Of, Cf, Query as Asked, Com, Sav}
@@ -16,6 +16,7 @@ use Rattle.settings.specs.declared.mnemonic.Named.{Named}
 use Rattle.settings.specs.declared.mnemonic.Named.the-variants.{Known, Unknown}
 use Rattle.settings.specs.declared.kinds.Kind.{Kind}
 use Rattle.settings.specs.declared.rows.Row.{Row}
+use Rattle.settings.specs.declared.settings.Settings.{Settings}
 use Rattle.lines.specs.Splitting.{fields}
 use Rattle.lines.specs.Fields.{read}
 use Rattle.lines.specs.declared.verdict.Fault.the-variants.{Syntax, Hardware}
@@ -90,3 +91,9 @@ parted model (n ∷ fs) = named model (recognised model n) fs
 unfoldable pub judged : Model → List ℕ → Verdict
 judged model [] = Refused Syntax
 judged model (b ∷ line) = parted model (fields (b ∷ line))
+
+-- what a line does to the settings: only one that writes changes any of them
+abbrev pub effect : Model → Settings → Verdict → Settings
+effect model s (Asks m) = s
+effect model s (Writes m r) = stored model s m r
+effect model s (Refused x) = s

@@ -1,24 +1,15 @@
 -- How the code walks a line, field after field, said of the line's bytes.
-use Prim.Native.Nat.{ℕ, _+_, _≤_}
+use Prim.Native.Nat.{ℕ, _≤_}
 use mathlib.Core.Path.{_≡_}
 use mathlib.Core.List.{List}
 use mathlib.Core.Bool.{Bool, cond}
-use lib.Dec.{ltb}
 use lib.ListN.{length, drop}
-use Rattle.settings.specs.Models.{channels}
-use Rattle.settings.specs.Mnemonics.{channelOf}
 use Rattle.settings.specs.Rows.{plain}
-use Rattle.settings.specs.declared.model.Model.{Model}
-use Rattle.settings.specs.declared.mnemonic.Mnemonic.{Mnemonic}
 use Rattle.settings.specs.declared.kinds.Kind.{Kind}
-use Rattle.lines.specs.Splitting.{fields, word, behind}
+use Rattle.lines.specs.Splitting.{word, behind}
 use Rattle.lines.specs.Fields.{read}
-use Rattle.lines.specs.Judging.{alone, withFields}
-use Rattle.lines.specs.declared.verdict.Fault.the-variants.{Hardware}
 use Rattle.lines.specs.declared.verdict.Field.{Field}
 use Rattle.lines.specs.declared.verdict.Field.the-variants.{Held}
-use Rattle.lines.specs.declared.verdict.Verdict.{Verdict}
-use Rattle.lines.specs.declared.verdict.Verdict.the-variants.{Refused}
 use Rattle.lines.specs.declared.fields.Got.{Got}
 
 -- the field at the head of what is left of a line, where there is one to be read; and what is left behind it
@@ -33,10 +24,3 @@ pub record Taken (has : Bool) (kind : Kind) (s : List ℕ) (a : ℕ) (r : Got) :
   pub field : r .field ≡ headField has kind (drop a s)
   pub rest : drop (r .next) s ≡ beyond has (drop a s)
   pub inside : r .next ≤ length s
-
--- a known mnemonic that ends at place e of the line
-unfoldable pub knownLine : Model → Mnemonic → List ℕ → ℕ → Verdict
-knownLine model m s e =
-    cond (ltb (channelOf m) (channels model))
-    (cond (ltb e (length s)) (withFields model m (fields (drop (e + 1) s))) (alone m))
-    (Refused Hardware)

@@ -3,9 +3,9 @@ ghost use mathlib.Core.Path.{_≡_};
 ghost use Prim.Native.Nat.{_+_, _≤_};
 ghost use lib.ListN.{length, drop, take};
 ghost use Rattle.settings.specs.Mnemonics.{recognised};
-ghost use Rattle.lines.specs.Splitting.{fields};
-ghost use Rattle.lines.specs.Judging.{alone, withFields, judged};
-ghost use Rattle.lines.specs.Walk.{knownLine};
+ghost use Rattle.settings.specs.declared.mnemonic.Named.the-variants.{Known};
+ghost use Rattle.lines.specs.Splitting.{fields, word};
+ghost use Rattle.lines.specs.Judging.{alone, withFields, named, judged};
 use crate::fields::count_fields;
 use crate::fields::field_end;
 use crate::fields::take_field;
@@ -56,8 +56,8 @@ fn judge_alone(m: Mnemonic) -> Verdict
 
 // A line whose mnemonic is known, and ends at e.
 fn judge_known(model: Model, m: Mnemonic, s: &[u8], e: usize) -> Verdict
-    requires { ⌜ e ≤ length (now s) ⌝ }
-    ensures { λ r. ⌜ r ≡ knownLine model m (now (s .entry)) e ⌝ }
+    requires { ⌜ e ≡ length (word (now s)) ⌝ }
+    ensures { λ r. ⌜ r ≡ named model (Known m) (drop 1 (fields (now (s .entry)))) ⌝ }
 {
     let channel = m.channel() as usize;
     if channel < model.channels() {

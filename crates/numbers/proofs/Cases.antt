@@ -3,6 +3,7 @@ use Prim.Native.Nat.{ℕ, _≤_, _<_}
 use mathlib.Core.Path.{_≡_, refl, sym, subst}
 use mathlib.Core.Bool.{Bool, true, false, cond, _&&_, _||_}
 use mathlib.Core.Logic.{_⊎_, inl, inr}
+use native.Mathlib.Omega.{arith}
 use borrow.Author.Tests.{ltb-true, ltb-false, leb-true}
 use lib.Dec.{T, leb, ltb}
 
@@ -16,6 +17,10 @@ below a b = go (ltb a b) refl
 pub true-or-false : (t : Bool) → (t ≡ true) ⊎ (t ≡ false)
 true-or-false true = inl refl
 true-or-false false = inr refl
+
+-- nothing is two of its cases at once: `never (cc)`
+pub never : {A : Type 0} → _≡_ {A = ℕ} 0 1 → A
+never z = absurd (omega arith)
 
 -- both tests of a conjunction that holds
 pub and-true : (a b : Bool) → a && b ≡ true → (a ≡ true) × (b ≡ true)

@@ -7,7 +7,7 @@ use mathlib.Core.Bool.{Bool, true, false, cond}
 use native.Mathlib.Omega.{arith}
 use lib.ListN.{length, drop}
 use lib.IntN.{ℤ, pos, _-ℤ_}
-use Rattle.numbers.proofs.Cases.{cond-cases, ranged}
+use Rattle.numbers.proofs.Cases.{cond-cases, ranged, never}
 use Rattle.numbers.proofs.Stops.{fitted-stops, fitted-nearest}
 use Rattle.numbers.specs.Numbers.{withinStops}
 use Rattle.numbers.specs.Rounding.{fittedTo, Nearest}
@@ -23,7 +23,7 @@ use Rattle.numerals.specs.declared.threshold.Power.the-variants.{Ten, No
 
 fits-of : (f : Fitted) (t : Threshold) → concluded f ≡ Within t → f ≡ Fits t
 fits-of (Fits u) t r = ap Fits (let same : u ≡ t = cc in same)
-fits-of Outside t r = absurd (let z : _≡_ {A = ℕ} 0 1 = cc in omega arith)
+fits-of Outside t r = never (cc)
 
 -- a threshold t that was read from s: the power that was sent, and t is what the digits fit, moved by those behind the point
 pub record Sent (s : List ℕ) (t : Threshold) : Type 0 where
@@ -44,8 +44,8 @@ sent s t r = go (count 1 12 (wholePart s ++ fractionPart s)) refl (powerOf (powe
       few = ranged 1 12 (length (wholePart s ++ fractionPart s)) c .1;
       fits = fits-of (fittedTo (value 0 (wholePart s ++ fractionPart s)) (e -ℤ pos (length (fractionPart s)))) t r;
     }
-    go true c NoPower q r = absurd (let z : _≡_ {A = ℕ} 0 1 = cc in omega arith)
-    go false c p q r = absurd (let z : _≡_ {A = ℕ} 0 1 = cc in omega arith)
+    go true c NoPower q r = never (cc)
+    go false c p q r = never (cc)
 
 fraction-digits : (s : List ℕ) → AllDigits (fraction s)
 unfolding fraction

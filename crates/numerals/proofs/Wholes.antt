@@ -11,7 +11,7 @@ use lib.Dec.{leb, eqb}
 use Rattle.numerals.specs.Digits.{lead, rest, headIs, count, value}
 use Rattle.numerals.specs.Whole.{numberOf, thousandths, behindPoint, factorOf}
 use Rattle.numerals.specs.declared.whole.Numeral.the-variants.{Number, Malformed}
-use Rattle.numbers.proofs.Cases.{and-true}
+use Rattle.numbers.proofs.Cases.{and-true, never}
 use Rattle.numerals.proofs.Runs.{drop-one, lead-digits, value-below, lead-rest-length}
 
 module _ (most : ℕ) (s : List ℕ) where
@@ -48,7 +48,7 @@ number-read most s n q = go (eqb (length (rest s)) 0 && count 1 most (lead s)) r
           few = omega (arith, all, few);
           small = rw (← same) (value-below (lead s) most (lead-digits s) few);
         }
-    go false e r = absurd (let z : _≡_ {A = ℕ} 0 1 = cc in omega arith)
+    go false e r = never (cc)
 
 module _ (n : ℕ) (s : List ℕ) where
   pub point-none : length s ≡ 0 → Number (n * 1000) ≡ behindPoint n s

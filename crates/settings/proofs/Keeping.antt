@@ -8,10 +8,10 @@ use native.Mathlib.Omega.{arith}
 use borrow.Author.Tests.{eqb-true, eqb-false, lt-ltb}
 use lib.ListN.{length, getD, set}
 use lib.Seq.{getD-set-same, getD-set-other}
-use lib.Dec.{T, ltb, eqb}
+use lib.Dec.{ltb, eqb}
 use Rattle.text.proofs.Tables.{entry}
 use Rattle.numbers.specs.declared.threshold.Threshold.{Threshold}
-use Rattle.numbers.proofs.Cases.{true-or-false}
+use Rattle.numbers.proofs.Cases.{true-or-false, never}
 use Rattle.settings.specs.Models.{channels, defaults}
 use Rattle.settings.specs.Kinds.{whole, factor, assignment, perChannel, storedTable, storedKinds, kinds}
 use Rattle.settings.specs.Rows.{plain, pairRow, row, listed, number, mixed, stored}
@@ -47,7 +47,7 @@ numeric Level = false
 number-plain : (k : Kind) (c : Threshold) → numeric k ≡ true → fits k c ≡ true → c ≡ plain (c .mantissa)
 number-plain (Whole l) c n h = fits-plain l c h
 number-plain (Factor l) c n h = fits-plain l c h
-number-plain Level c n h = absurd (subst T (sym n) tt)
+number-plain Level c n h = never (cc)
 
 module _ (r : Row) where
   one-number : (k : Kind) → numeric k ≡ true → Fitting (k ∷ []) r → r ≡ pairRow (number r) 0

@@ -1,7 +1,7 @@
 -- The sheet: it has every setting once, and its cells decide settings that are within their limits.
 use Prim.Native.Nat.{ℕ, zero, suc, _+_, _≤_, _<_}
 use mathlib.Core.Path.{_≡_, refl, sym, ap, _∙_, subst}
-use mathlib.Core.List.{List, [], _∷_}
+use mathlib.Core.List.{List, [], _∷_, _++_, map}
 use mathlib.Core.Bool.{Bool, true, false, not, _&&_}
 use mathlib.Core.Logic.{_≢_, _⊎_, inl, inr, ⊎-elim, _↔_}
 use native.Mathlib.Omega.{arith}
@@ -13,7 +13,7 @@ use Rattle.text.proofs.Tables.{listed as tableOf, tabled}
 use Rattle.numbers.specs.declared.threshold.Threshold.{Threshold}
 use Rattle.numbers.proofs.Cases.{true-or-false, and-true}
 use Rattle.settings.specs.Models.{defaults}
-use Rattle.settings.specs.Mnemonics.{sheet, sheetAt}
+use Rattle.settings.specs.Mnemonics.{sheet, sheetAt, others, known}
 use Rattle.settings.specs.Kinds.{whole, factor, perChannel, kinds, storedKinds, storedTable}
 use Rattle.settings.specs.Rows.{plain, row, listed, count, cells}
 use Rattle.settings.specs.Limits.{placeWithin, rowWithin, every, within}
@@ -21,6 +21,7 @@ use Rattle.settings.specs.declared.model.Model.{Model}
 use Rattle.settings.specs.declared.model.Model.the-variants.{Tpg361, Tpg362}
 use Rattle.settings.specs.declared.mnemonic.Setting.{Setting}
 use Rattle.settings.specs.declared.mnemonic.Setting.the-variants.{Uni, Fil, Cal, Dcd, Sp, Stored}
+use Rattle.settings.specs.declared.mnemonic.Mnemonic.{Mnemonic}
 use Rattle.settings.specs.declared.mnemonic.Mnemonic.the-variants.{Setting as Of}
 use Rattle.settings.specs.declared.kinds.Kind.{Kind}
 use Rattle.settings.specs.declared.kinds.Kind.the-variants.{Threshold as Level}
@@ -181,3 +182,27 @@ sheet-decides model a b sa sb wa wb =
         (row-places ks (row a x) d (within-rows model a wa x h) i l)
         (row-places ks (row b x) d (within-rows model b wb x h) i l)
         (λ t. taken (count model x) i (row a x) (row b x) (on-sheet (λ y. cells model a y ≡ cells model b y) model e x h) (ltb-true i (count model x) t)))
+
+-- ---- all that are known: those of the sheet, and the others
+
+module _ (P : Mnemonic → Type 0) where
+  each-parts : (xs : List Setting) (ms : List Mnemonic) → Each P (map Of xs ++ ms) → Each (λ x. P (Of x)) xs × Each P ms
+  each-parts [] ms e = (tt, e)
+  each-parts (x ∷ xs) ms e = let p = each-parts xs ms (e .1) in ((e .0, p .0), p .1)
+
+  each-whole : (xs : List Setting) (ms : List Mnemonic) → Each (λ x. P (Of x)) xs → Each P ms → Each P (map Of xs ++ ms)
+  each-whole [] ms e f = f
+  each-whole (x ∷ xs) ms e f = (e .0, each-whole xs ms (e .1) f)
+
+  module _ (model : Model) where
+    pub sheet-each : Each P (known model) → Each (λ x. P (Of x)) (sheet model)
+    unfolding known
+    sheet-each e = each-parts (sheet model) others e .0
+
+    pub others-each : Each P (known model) → Each P others
+    unfolding known
+    others-each e = each-parts (sheet model) others e .1
+
+    pub known-each : Each (λ x. P (Of x)) (sheet model) → Each P others → Each P (known model)
+    unfolding known
+    known-each = each-whole (sheet model) others

@@ -2,8 +2,9 @@
 use mathlib.Core.Path.{_≡_, sym, ap, _∙_}
 use lib.ListN.{length}
 use Rattle.settings.specs.Mnemonics.{recognised}
+use Rattle.settings.specs.declared.mnemonic.Named.the-variants.{Known, Unknown}
 use Rattle.lines.specs.Splitting.{word}
-use Rattle.lines.proofs.Walking.{end-inside, word-front, line-unknown, line-known}
+use Rattle.lines.proofs.Walking.{end-inside, word-front, line-named}
 use borrow.Author.Needs.{needs}
 use native.Mathlib.Omega.{arith}
 use Rattle.lines.proofs.judging.judge.Statement.{statement}
@@ -22,9 +23,7 @@ enum-known-n : tie.Need-enum-known-n
 enum-known-n c = search needs
 
 judge-known-requires : tie.Need-judge-known-requires
-judge-known-requires c κs =
-    let e = c .before .before .before .before .field-end in
-    rw (e .ensures) (end-inside (c .before .before .before .before .before .before .args .line .now) 0 (omega arith))
+judge-known-requires c κs = omega (arith, c .before .before .before .before .field-end .ensures)
 
 returns : tie.Need-returns
 returns c =
@@ -33,7 +32,7 @@ returns c =
     let s = a .line .now in
     let q : e .result ≡ length (word s) = omega (arith, e .ensures) in
     let p = ap (recognised (a .model)) (sym (word-front s (e .result) q)) ∙ sym (c .before .before .recognise .ensures) ∙ c .enum-told .given .1 in
-    line-unknown (a .model) s p
+    line-named (a .model) s Unknown p
 
 returns-2 : tie.Need-returns-2
 returns-2 c =
@@ -44,7 +43,7 @@ returns-2 c =
     let s = a .line .now in
     let q : e .result ≡ length (word s) = omega (arith, e .ensures) in
     let p = ap (recognised (a .model)) (sym (word-front s (e .result) q)) ∙ sym (r .ensures) ∙ n .given .1 in
-    c .judge-known .ensures ∙ line-known (a .model) s (n .given .0 .0) p (e .result) q
+    c .judge-known .ensures ∙ line-named (a .model) s (Known (n .given .0 .0)) p
 
 pub judge-spec : {M : Type 1} → statement M
 judge-spec =

@@ -28,7 +28,8 @@ use Rattle.lines.specs.Replies.{texts, settingText, factorsText}
 use Rattle.lines.specs.declared.verdict.Fault.the-variants.{Syntax}
 use Rattle.lines.specs.declared.verdict.Verdict.{Verdict}
 use Rattle.lines.specs.declared.verdict.Verdict.the-variants.{Asks, Writes, Refused}
-use Rattle.lines.proofs.Accepted.{Spelt, all-spelt, others-each, line-fields, plain-texts}
+use Rattle.settings.proofs.Sheets.{others-each}
+use Rattle.lines.proofs.Accepted.{Spelt, all-spelt, line-fields, plain-texts}
 
 -- a verdict in words: what it asks for, what it writes as a reply would say it, or the error word
 abbrev pub says : Model → Verdict → List ℕ

@@ -3,15 +3,16 @@ use Prim.Native.Nat.{ℕ, zero, suc, _≤_, _<_}
 use mathlib.Core.Path.{_≡_, refl, sym, ap, _∙_, subst}
 use mathlib.Core.List.{List, [], _∷_, map}
 use mathlib.Core.Bool.{true, _&&_}
-use mathlib.Core.Logic.{⊎-elim}
+use mathlib.Core.Logic.{_≢_, ⊎-elim}
 use native.Mathlib.Omega.{arith}
 use borrow.Author.Tests.{ltb-true, eqb-true, lt-ltb, le-ltb}
-use lib.ListN.{length, getD, List·getD-eq-default}
+use lib.ListN.{length, getD, drop, List·getD-eq-default}
 use lib.Dec.{eqb, leb, ltb}
 use Rattle.numbers.specs.declared.threshold.Threshold.{Threshold}
 use Rattle.numbers.proofs.Cases.{below, cond-cases, never}
-use Rattle.numerals.specs.Whole.{wholeOf, factorOf}
-use Rattle.numerals.specs.Threshold.{thresholdOf}
+use Rattle.numerals.specs.Digits.{lead, rest, headIs}
+use Rattle.numerals.specs.Whole.{numberOf, wholeOf, factorOf}
+use Rattle.numerals.specs.Threshold.{afterPlus, judged as judgedNumeral, fraction, afterFraction, thresholdOf}
 use Rattle.numerals.specs.declared.whole.Numeral.{Numeral}
 use Rattle.numerals.specs.declared.whole.Numeral.the-variants.{Number, Malformed as NoNumber}
 use Rattle.numerals.specs.declared.threshold.ThresholdNumeral.{ThresholdNumeral}
@@ -98,6 +99,24 @@ module _ (m : Mnemonic) (r : Row) where
   all-hold (Faulty x ∷ rs) v w a b = never (cc)
   all-hold (Malformed ∷ rs) v w a b = never (cc)
 
+-- "An empty field is a fault of form. It never means a default.", of whatever kind
+pub empty-malformed : (k : Kind) → read k [] ≡ Malformed
+unfolding lead rest headIs numberOf factorOf afterPlus fraction afterFraction judgedNumeral thresholdOf
+empty-malformed (Whole l) = refl
+empty-malformed (Factor l) = refl
+empty-malformed Level = refl
+
+-- a field that has a byte
+abbrev pub Filled : List ℕ → Type 0
+Filled f = f ≢ []
+
+filled : (ks : List Kind) (fs : List (List ℕ)) → length fs ≡ length ks → Each Holds (readings ks fs) → Each Filled fs
+unfolding readings Holds
+filled [] [] e h = tt
+filled [] (f ∷ fs) e h = absurd (omega arith)
+filled (k ∷ ks) [] e h = absurd (omega arith)
+filled (k ∷ ks) (f ∷ fs) e h = ((λ z. never (let q = sym (empty-malformed k) ∙ ap (read k) (sym z) ∙ h .0 in cc)), filled ks fs (omega arith) (h .1))
+
 fit-readings : (ks : List Kind) (fs : List (List ℕ)) → length fs ≡ length ks → Each Holds (readings ks fs) → AllFit ks (map cellOf (readings ks fs))
 unfolding readings Holds
 fit-readings [] [] e h = none
@@ -134,50 +153,57 @@ row-fitting ks cs f = places-row ks (rowOf cs) (pairRow 0 0) (λ i h. rw (row-ce
 
 -- ---- what a line needs to be accepted
 
-record Admitted (model : Model) (m : Mnemonic) (r : Row) : Type 0 where
+record Admitted (model : Model) (fs : List (List ℕ)) (m : Mnemonic) (r : Row) : Type 0 where
   word : List ℕ
   known : recognised model word ≡ Known m
   there : channelOf m < channels model
   fitting : Fitting (kinds model m) r
+  full : Each Filled fs
 
 module _ (model : Model) (m : Mnemonic) (r : Row) where
-  -- COM and SAV alone write their defaults
-  alone-fitting : (n : Mnemonic) → alone n ≡ Writes m r → (n ≡ m) × Fitting (kinds model n) r
-  alone-fitting (Of x) e = never (cc)
-  alone-fitting (Cf k) e = never (cc)
-  alone-fitting (Asked q) e = never (cc)
-  alone-fitting Com e = let s : pairRow 1 0 ≡ r = cc in (cc, subst (Fitting (kinds model Com)) s refl)
-  alone-fitting Sav e = let s : pairRow 0 0 ≡ r = cc in (cc, subst (Fitting (kinds model Sav)) s refl)
+  -- what the fields of a line that writes are
+  record Written (n : Mnemonic) (fs : List (List ℕ)) : Type 0 where
+    by : n ≡ m
+    fit : Fitting (kinds model n) r
+    all : Each Filled fs
 
-  fields-fitting : (n : Mnemonic) (fs : List (List ℕ)) → length fs ≡ length (kinds model n) → judgedFields n (readings (kinds model n) fs) ≡ Writes m r
-      → (n ≡ m) × Fitting (kinds model n) r
-  fields-fitting n fs c e =
+  -- COM and SAV alone write their defaults
+  alone-written : (n : Mnemonic) → alone n ≡ Writes m r → Written n []
+  alone-written (Of x) e = never (cc)
+  alone-written (Cf k) e = never (cc)
+  alone-written (Asked q) e = never (cc)
+  alone-written Com e = let s : pairRow 1 0 ≡ r = cc in record { by = cc; fit = subst (Fitting (kinds model Com)) s refl; all = tt }
+  alone-written Sav e = let s : pairRow 0 0 ≡ r = cc in record { by = cc; fit = subst (Fitting (kinds model Sav)) s refl; all = tt }
+
+  fields-written : (n : Mnemonic) (fs : List (List ℕ)) → length fs ≡ length (kinds model n) → judgedFields n (readings (kinds model n) fs) ≡ Writes m r → Written n fs
+  fields-written n fs c e =
       let ks = kinds model n in
       let rs = readings ks fs in
       let v = valued rs (Writes n (rowOf (map cellOf rs))) in
       let p = all-hold m r rs v (Writes n (rowOf (map cellOf rs))) e (formed-out m r rs v e) in
       let q : Writes n (rowOf (map cellOf rs)) ≡ Writes m r = p .1 in
       let s : rowOf (map cellOf rs) ≡ r = cc in
-      (cc, subst (Fitting ks) s (row-fitting ks (map cellOf rs) (fit-readings ks fs c (p .0))))
+      record { by = cc; fit = subst (Fitting ks) s (row-fitting ks (map cellOf rs) (fit-readings ks fs c (p .0))); all = filled ks fs c (p .0) }
 
-  with-fitting : (n : Mnemonic) (fs : List (List ℕ)) → withFields model n fs ≡ Writes m r → (n ≡ m) × Fitting (kinds model n) r
+  with-written : (n : Mnemonic) (fs : List (List ℕ)) → withFields model n fs ≡ Writes m r → Written n fs
   unfolding withFields
-  with-fitting n [] = alone-fitting n
-  with-fitting n (f ∷ fs) =
-      cond-cases (λ v. v ≡ Writes m r → (n ≡ m) × Fitting (kinds model n) r) (eqb (length (f ∷ fs)) (length (kinds model n)))
+  with-written n [] = alone-written n
+  with-written n (f ∷ fs) =
+      cond-cases (λ v. v ≡ Writes m r → Written n (f ∷ fs)) (eqb (length (f ∷ fs)) (length (kinds model n)))
       (judgedFields n (readings (kinds model n) (f ∷ fs))) (Refused Syntax)
-      (λ t. fields-fitting n (f ∷ fs) (eqb-true (length (f ∷ fs)) (length (kinds model n)) t))
+      (λ t. fields-written n (f ∷ fs) (eqb-true (length (f ∷ fs)) (length (kinds model n)) t))
       (λ _ e. never (cc))
 
-  named-admitted : (word : List ℕ) (fs : List (List ℕ)) (n : Named) → recognised model word ≡ n → named model n fs ≡ Writes m r → Admitted model m r
+  named-admitted : (word : List ℕ) (fs : List (List ℕ)) (n : Named) → recognised model word ≡ n → named model n fs ≡ Writes m r → Admitted model fs m r
   named-admitted word fs Unknown k e = never (cc)
   named-admitted word fs (Known n) k e =
-      cond-cases (λ v. v ≡ Writes m r → Admitted model m r) (ltb (channelOf n) (channels model)) (withFields model n fs) (Refused Hardware)
-      (λ t w. let p = with-fitting n fs w in
-      subst (λ n. Admitted model n r) (p .0) (record { word = word; known = k; there = ltb-true (channelOf n) (channels model) t; fitting = p .1 }))
+      cond-cases (λ v. v ≡ Writes m r → Admitted model fs m r) (ltb (channelOf n) (channels model)) (withFields model n fs) (Refused Hardware)
+      (λ t w. let p = with-written n fs w in
+      subst (λ n. Admitted model fs n r) (p .by)
+      (record { word = word; known = k; there = ltb-true (channelOf n) (channels model) t; fitting = p .fit; full = p .all }))
       (λ _ w. never (cc)) e
 
-  parts-admitted : (parts : List (List ℕ)) → parted model parts ≡ Writes m r → Admitted model m r
+  parts-admitted : (parts : List (List ℕ)) → parted model parts ≡ Writes m r → Admitted model (drop 1 parts) m r
   parts-admitted [] e = never (cc)
   parts-admitted (word ∷ fs) e = named-admitted word fs (recognised model word) refl e
 
@@ -190,11 +216,15 @@ found-each P word (n ∷ ms) m e p =
     (λ _ q. let s : n ≡ m = cc in subst P s (p .0)) (λ _ q. found-each P word ms m q (p .1)) e
 
 module _ (model : Model) (line : List ℕ) (m : Mnemonic) (r : Row) (e : judged model line ≡ Writes m r) where
-  admitted : Admitted model m r
+  admitted : Admitted model (drop 1 (fields line)) m r
   admitted = parts-admitted model m r (fields line) (sym (judged-parts model line) ∙ e)
 
   pub writes-fitting : Fitting (kinds model m) r
   writes-fitting = admitted .fitting
+
+  -- a line that writes has no empty field
+  pub writes-filled : Each Filled (drop 1 (fields line))
+  writes-filled = admitted .full
 
   pub writes-there : channelOf m < channels model
   writes-there = admitted .there

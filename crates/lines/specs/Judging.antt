@@ -31,35 +31,39 @@ readings [] fs = []
 readings (k ∷ ks) [] = []
 readings (k ∷ ks) (f ∷ fs) = read k f ∷ readings ks fs
 
--- "form of every field, left to right, 0001", before what is said of their values
+-- a malformed field is refused, whatever else would be said
 abbrev pub formOr : Field → Verdict → Verdict
 formOr Malformed v = Refused Syntax
 formOr (Held c) v = v
 formOr (Faulty x) v = v
 
+-- "form of every field, left to right, 0001"
 unfoldable pub formed : List Field → Verdict → Verdict
 formed [] v = v
 formed (r ∷ rs) v = formOr r (formed rs v)
 
--- "value of every field, left to right", before what the line would write
+-- a field with a fault of value is refused with it
 abbrev pub valueOr : Field → Verdict → Verdict
 valueOr (Faulty x) v = Refused x
 valueOr (Held c) v = v
 valueOr Malformed v = v
 
+-- "value of every field, left to right"
 unfoldable pub valued : List Field → Verdict → Verdict
 valued [] v = v
 valued (r ∷ rs) v = valueOr r (valued rs v)
 
--- the cells that the fields hold
+-- the cell that a field holds
 abbrev pub cellOf : Field → Threshold
 cellOf (Held c) = c
 cellOf Malformed = plain 0
 cellOf (Faulty x) = plain 0
 
+-- up to three cells as a row
 abbrev pub rowOf : List Threshold → Row
 rowOf cs = record { first = getD cs 0 (plain 0); second = getD cs 1 (plain 0); third = getD cs 2 (plain 0) }
 
+-- the form of all fields, then the value of each, then what the line writes
 abbrev pub judgedFields : Mnemonic → List Field → Verdict
 judgedFields m rs = formed rs (valued rs (Writes m (rowOf (map cellOf rs))))
 

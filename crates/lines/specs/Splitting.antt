@@ -22,10 +22,11 @@ joined [] = []
 joined (f ∷ []) = f
 joined (f ∷ g ∷ fs) = f ++ (code "," ∷ joined (g ∷ fs))
 
--- the bytes before the first comma, and those behind it
+-- the bytes before the first comma
 unfoldable pub word : List ℕ → List ℕ
 word [] = []
 word (b ∷ s) = cond (eqb b (code ",")) [] (b ∷ word s)
 
+-- those behind it
 abbrev pub behind : List ℕ → List ℕ
 behind s = drop (suc (length (word s))) s

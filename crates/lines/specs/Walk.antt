@@ -12,10 +12,11 @@ use Rattle.lines.specs.declared.verdict.Field.{Field}
 use Rattle.lines.specs.declared.verdict.Field.the-variants.{Held}
 use Rattle.lines.specs.declared.fields.Got.{Got}
 
--- the field at the head of what is left of a line, where there is one to be read; and what is left behind it
+-- the field at the head of what is left of a line, where there is one to be read
 abbrev pub headField : Bool → Kind → List ℕ → Field
 headField has kind s = cond has (read kind (word s)) (Held (plain 0))
 
+-- what is left behind it
 abbrev pub beyond : Bool → List ℕ → List ℕ
 beyond has s = cond has (behind s) s
 

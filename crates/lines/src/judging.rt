@@ -17,6 +17,11 @@ use settings::mnemonic::Named;
 use settings::model::Model;
 use settings::rows::pair_row;
 
+// What COM and SAV write with no comma.
+const COM_ALONE: u32 = 1;
+
+const SAV_ALONE: u32 = 0;
+
 // The fields from a on, for a mnemonic that the model has.
 fn judge_fields(model: Model, m: Mnemonic, s: &[u8], a: usize) -> Verdict
     requires { ⌜ a ≤ length (now s) ⌝ }
@@ -49,8 +54,8 @@ fn judge_alone(m: Mnemonic) -> Verdict
         Mnemonic::Setting(_) => Verdict::Asks(m),
         Mnemonic::Cf(_) => Verdict::Asks(m),
         Mnemonic::Query(_) => Verdict::Asks(m),
-        Mnemonic::Com => Verdict::Writes(m, pair_row(Model::POWER_ON_MODE, 0)),
-        Mnemonic::Sav => Verdict::Writes(m, pair_row(0, 0)),
+        Mnemonic::Com => Verdict::Writes(m, pair_row(COM_ALONE, 0)),
+        Mnemonic::Sav => Verdict::Writes(m, pair_row(SAV_ALONE, 0)),
     }
 }
 

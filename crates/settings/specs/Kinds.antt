@@ -39,6 +39,7 @@ storedTable model =
 unfoldable pub storedKinds : Model → ℕ → List Kind
 storedKinds model k = take 1 (drop k (storedTable model))
 
+-- the rows of the table
 abbrev pub settingKinds : Model → Setting → List Kind
 settingKinds model Uni = whole 0 4 ∷ []
 settingKinds model Fil = perChannel model (whole 0 3)

@@ -45,6 +45,7 @@ rowFits ks r d =
     && (placeWithin (ltb 1 (length ks)) (getD ks 1 Level) (r .second) (d .second)
     && placeWithin (ltb 2 (length ks)) (getD ks 2 Level) (r .third) (d .third))
 
+-- the row of a setting, beside its default on the model
 abbrev pub rowWithin : Model → Settings → Setting → Bool
 rowWithin model s x = rowFits (kinds model (Of x)) (row s x) (row (defaults model) x)
 
@@ -53,6 +54,6 @@ unfoldable pub every : {A : Type 0} → (A → Bool) → List A → Bool
 every p [] = true
 every p (x ∷ xs) = p x && every p xs
 
--- the limits of settings on a model
+-- all of the sheet
 unfoldable pub within : Model → Settings → Bool
 within model s = every (rowWithin model s) (sheet model)

@@ -3,7 +3,7 @@ use Prim.Native.Nat.{ℕ}
 use Prim.Native.String.{String}
 use mathlib.Core.List.{List, [], _∷_, _++_, map}
 use mathlib.Core.Bool.{Bool, true, false, cond, _&&_}
-use lib.ListN.{getD}
+use lib.ListN.{getD, take, drop}
 use lib.Dec.{eqb}
 use Rattle.text.specs.Text.{ascii}
 use Rattle.settings.specs.declared.model.Model.{Model}
@@ -39,12 +39,14 @@ knownAt model i = getD (known model) i (Of Uni)
 
 -- a name that ends with a number, counted from 1
 abbrev pub numbered : String → ℕ → List ℕ
-numbered s k = ascii s ++ (getD (ascii "1234") k 32 ∷ [])
+numbered s k = ascii s ++ take 1 (drop k (ascii "1234"))
 
+-- those that are only stored and answered
 abbrev pub storedNames : List (List ℕ)
 storedNames =
     ascii "ERA" ∷ ascii "EVA" ∷ ascii "FMT" ∷ ascii "LNG" ∷ ascii "NAD" ∷ ascii "PRE" ∷ ascii "PRO" ∷ ascii "PUC" ∷ ascii "DCS" ∷ []
 
+-- the names of the sheet; a number that is none of a family has no name of it
 abbrev pub settingName : Setting → List ℕ
 settingName Uni = ascii "UNI"
 settingName Fil = ascii "FIL"
@@ -53,6 +55,7 @@ settingName Dcd = ascii "DCD"
 settingName (Sp k) = numbered "SP" k
 settingName (Stored k) = getD storedNames k []
 
+-- the names of those that take no field
 abbrev pub queryName : Query → List ℕ
 queryName Sps = ascii "SPS"
 queryName (Pr k) = numbered "PR" k
@@ -61,6 +64,7 @@ queryName Tid = ascii "TID"
 queryName Ayt = ascii "AYT"
 queryName Err = ascii "ERR"
 
+-- the name of each mnemonic
 abbrev pub name : Mnemonic → List ℕ
 name (Of x) = settingName x
 name (Cf k) = numbered "CF" k
@@ -84,7 +88,7 @@ found word (m ∷ ms) = cond (same (name m) word) (Known m) (found word ms)
 unfoldable pub recognised : Model → List ℕ → Named
 recognised model word = found word (known model)
 
--- the channel that a mnemonic is about, from 0 on; 0 where it is about none
+-- "PR2 or CF2" are about channel 1, counted from 0; those that are about no channel are there on every model, as channel 0 is
 abbrev pub queryChannel : Query → ℕ
 queryChannel Sps = 0
 queryChannel (Pr k) = k
@@ -93,6 +97,7 @@ queryChannel Tid = 0
 queryChannel Ayt = 0
 queryChannel Err = 0
 
+-- and so for every mnemonic
 abbrev pub channelOf : Mnemonic → ℕ
 channelOf (Of x) = 0
 channelOf (Cf k) = k

@@ -20,6 +20,7 @@ use Rattle.settings.specs.declared.rows.Row.{Row}
 abbrev pub plain : ℕ → Threshold
 plain n = record { mantissa = n; exponent = pos 0 }
 
+-- up to two numbers
 abbrev pub pairRow : ℕ → ℕ → Row
 pairRow a b = record { first = plain a; second = plain b; third = plain 0 }
 
@@ -31,6 +32,7 @@ noSwitching = record { assignment = 0; lower = plain 0; upper = plain 0 }
 abbrev pub cellsOf : Switching → Row
 cellsOf w = record { first = plain (w .assignment); second = w .lower; third = w .upper }
 
+-- the switching function k
 abbrev pub switchRow : List Switching → ℕ → Row
 switchRow ws k = cellsOf (getD ws k noSwitching)
 
@@ -43,10 +45,11 @@ row s Dcd = pairRow (getD (s .resolutions) 0 0) (getD (s .resolutions) 1 0)
 row s (Sp k) = switchRow (s .switching) k
 row s (Stored k) = pairRow (getD (s .stored) k 0) 0
 
--- the cells that a model has of a setting: as many as it takes fields
+-- a row as a list
 abbrev pub listed : Row → List Threshold
 listed r = r .first ∷ r .second ∷ r .third ∷ []
 
+-- "per channel": a model has as many cells of a setting as it takes fields
 abbrev pub count : Model → Setting → ℕ
 count model x = length (kinds model (Of x))
 
@@ -72,13 +75,14 @@ withSwitching s v = record { unit = s .unit; filters = s .filters; factors = s .
 abbrev pub withStored : Settings → List ℕ → Settings
 withStored s v = record { unit = s .unit; filters = s .filters; factors = s .factors; resolutions = s .resolutions; switching = s .switching; stored = v }
 
--- the number in each of the first two cells, and both
+-- the number in the first cell, and those in the first two
 abbrev pub number : Row → ℕ
 number r = r .first .mantissa
 
 abbrev pub pair : Row → List ℕ
 pair r = r .first .mantissa ∷ r .second .mantissa ∷ []
 
+-- "assignment .., lower, upper", from its cells
 abbrev pub switchingOf : Row → Switching
 switchingOf r = record { assignment = number r; lower = r .second; upper = r .third }
 
@@ -99,7 +103,7 @@ mixed n r q = record {
   third = cond (ltb 2 n) (r .third) (q .third);
 }
 
--- the settings after an accepted line: as many cells of its setting as it has fields; "CFx .. writes CAL's own cell"
+-- the settings after an accepted line: as many cells of its setting as it has fields; CFx: "it writes CAL's own cell"
 abbrev pub stored : Model → Settings → Mnemonic → Row → Settings
 stored model s (Of x) r = withRow s x (mixed (count model x) r (row s x))
 stored model s (Cf k) r = withFactors s (set (s .factors) k (number r))

@@ -18,7 +18,7 @@ fn is_inside(l: Limits, cell: Threshold) -> bool
 }
 
 // Whether a field of this kind may hold the cell.
-pub fn fits(kind: Kind, cell: Threshold) -> bool
+fn fits(kind: Kind, cell: Threshold) -> bool
     ensures { λ r. ⌜ r ≡ fits kind cell ⌝ }
 {
     match kind {

@@ -134,7 +134,7 @@ impl Settings {
     }
 
     // The settings with other cells for a setting.
-    pub fn with_row(self, x: Setting, r: Row) -> Settings
+    fn with_row(self, x: Setting, r: Row) -> Settings
         ensures { λ s. ⌜ s ≡ withRow self x r ⌝ }
     {
         let a = r.first;

@@ -257,23 +257,20 @@ line-within model s line (Asked q) r sh w e = w
 line-within model s line Com r sh w e = w
 line-within model s line Sav r sh w e = w
 
--- no line takes the settings out of their limits
-module _ (model : Model) (s : Settings) (line : List ℕ) (sh : Shaped s) (w : within model s ≡ true) where
-  pub effect-within : within model (effect model s (judged model line)) ≡ true
-  effect-within = by (judged model line) refl
+module _ (model : Model) (s : Settings) (sh : Shaped s) where
+  pub effect-shaped : (v : Verdict) → Shaped (effect model s v)
+  effect-shaped (Asks m) = sh
+  effect-shaped (Writes m r) = stored-shaped model s r m sh
+  effect-shaped (Refused x) = sh
+
+  -- no line takes the settings out of their limits
+  pub effect-within : (line : List ℕ) → within model s ≡ true → within model (effect model s (judged model line)) ≡ true
+  effect-within line w = by (judged model line) refl
     where
       by : (v : Verdict) → judged model line ≡ v → within model (effect model s v) ≡ true
       by (Asks m) e = w
       by (Writes m r) e = line-within model s line m r sh w e
       by (Refused x) e = w
-
-  pub effect-shaped : Shaped (effect model s (judged model line))
-  effect-shaped = by (judged model line)
-    where
-      by : (v : Verdict) → Shaped (effect model s v)
-      by (Asks m) = sh
-      by (Writes m r) = stored-shaped model s r m sh
-      by (Refused x) = sh
 
 -- a refused line leaves the settings as they were
 pub refused-nothing : (model : Model) (s : Settings) (line : List ℕ) (x : Fault) → judged model line ≡ Refused x → effect model s (judged model line) ≡ s

@@ -4,3 +4,4 @@ pub mod ReadBack
 pub mod Accepted
 pub mod Kept
 pub mod Rows
+pub mod Copy

@@ -10,9 +10,12 @@ use Rattle.text.specs.Text.{ascii}
 use Rattle.text.specs.Digits.{dig, bare}
 use Rattle.numbers.specs.Rounding.{climbWithin, five, power, rounded, fittedTo}
 use Rattle.numerals.specs.Digits.{lead, rest, headIs, value}
-use Rattle.numerals.specs.Whole.{numberOf, behindPoint, factorOf}
-use Rattle.numerals.specs.Threshold.{afterPlus, afterSign, powerOf, judged as judgedNumeral, fraction, afterFraction, thresholdOf}
+use Rattle.numerals.specs.Whole.{numeralFault, numberOf, behindPoint, factorOf}
+use Rattle.numerals.specs.Threshold.{thresholdFault, afterPlus, afterSign, powerOf, judged as judgedNumeral, fraction, afterFraction, thresholdOf}
 use Rattle.numerals.specs.Writing.{scientific}
+use Rattle.numerals.specs.declared.whole.Numeral.the-variants.{Malformed as NoNumber}
+use Rattle.numerals.specs.declared.threshold.ThresholdNumeral.{ThresholdNumeral}
+use Rattle.numerals.specs.declared.threshold.ThresholdNumeral.the-variants.{Within, Malformed as NoThreshold, OutOfRange}
 use Rattle.settings.specs.Mnemonics.{known, name, same, found, recognised}
 use Rattle.settings.specs.Kinds.{storedKinds, kinds}
 use Rattle.settings.specs.Rows.{listed, cells}
@@ -20,12 +23,15 @@ use Rattle.settings.specs.declared.model.Model.{Model}
 use Rattle.settings.specs.declared.model.Model.the-variants.{Tpg361, Tpg362}
 use Rattle.settings.specs.declared.mnemonic.Setting.the-variants.{Cal}
 use Rattle.settings.specs.declared.mnemonic.Mnemonic.the-variants.{Setting as Of, Cf}
+use Rattle.settings.specs.declared.kinds.Limits.{Limits}
 use Rattle.settings.specs.declared.settings.Settings.{Settings}
 use Rattle.lines.specs.Splitting.{fields, joined}
-use Rattle.lines.specs.Fields.{errorWord, limited}
+use Rattle.lines.specs.Fields.{errorWord, limited, ranged, thresholdField}
 use Rattle.lines.specs.Judging.{readings, formed, valued, withFields, judged}
 use Rattle.lines.specs.Replies.{texts, settingText, factorsText}
 use Rattle.lines.specs.declared.verdict.Fault.the-variants.{Syntax}
+use Rattle.lines.specs.declared.verdict.Field.{Field}
+use Rattle.lines.specs.declared.verdict.Field.the-variants.{Held, Malformed, Faulty}
 use Rattle.lines.specs.declared.verdict.Verdict.{Verdict}
 use Rattle.lines.specs.declared.verdict.Verdict.the-variants.{Asks, Writes, Refused}
 use Rattle.settings.proofs.Sheets.{others-each}
@@ -89,6 +95,22 @@ expected = map (λ (l : Line). ascii (l .said))
 pub lines-hold : answers lines ≡ expected lines
 unfolding bare climbWithin five power rounded fittedTo lead rest headIs value numberOf behindPoint factorOf afterPlus afterSign powerOf judgedNumeral fraction afterFraction thresholdOf scientific known same found recognised storedKinds fields limited readings formed valued withFields judged
 lines-hold = refl
+
+-- ---- the error word of a field
+
+abbrev fieldWord : Field → ℕ
+fieldWord (Held c) = 0
+fieldWord Malformed = errorWord Syntax
+fieldWord (Faulty x) = errorWord x
+
+-- is the one that its numeral has by itself; only a number has limits of the setting beside it
+pub threshold-word : (t : ThresholdNumeral) → fieldWord (thresholdField t) ≡ thresholdFault t
+threshold-word (Within c) = refl
+threshold-word NoThreshold = refl
+threshold-word OutOfRange = refl
+
+pub number-word : (l : Limits) → fieldWord (ranged l NoNumber) ≡ numeralFault NoNumber
+number-word l = refl
 
 -- ---- "Sending a CF1 reply back as CF1: two fields on a 362, refused."
 

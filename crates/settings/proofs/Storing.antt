@@ -82,7 +82,7 @@ abbrev itself : Threshold → Threshold
 itself c = c
 
 -- a row has three places
-upto-three : (P : ℕ → Type 0) → P 0 → P 1 → P 2 → P 3 → (m : ℕ) → m ≤ 3 → P m
+pub upto-three : (P : ℕ → Type 0) → P 0 → P 1 → P 2 → P 3 → (m : ℕ) → m ≤ 3 → P m
 upto-three P a b c d zero h = a
 upto-three P a b c d (suc zero) h = b
 upto-three P a b c d (suc (suc zero)) h = c

@@ -1,0 +1,142 @@
+-- Settings sent as a sheet to another box of the model make the two equal; cut after a line, exactly those named so far are.
+use Prim.Native.Nat.{ℕ, _≤_}
+use mathlib.Core.Path.{_≡_, refl, ap, _∙_}
+use mathlib.Core.List.{List, [], _∷_, map}
+use mathlib.Core.Bool.{true}
+use mathlib.Core.Logic.{_≢_, _↔_}
+use lib.ListN.{take, drop}
+use Rattle.settings.specs.Mnemonics.{sheet}
+use Rattle.settings.specs.Rows.{row, listed, count, cells}
+use Rattle.settings.specs.Limits.{within}
+use Rattle.settings.specs.declared.model.Model.{Model}
+use Rattle.settings.specs.declared.mnemonic.Setting.{Setting}
+use Rattle.settings.specs.declared.mnemonic.Mnemonic.the-variants.{Setting as Of}
+use Rattle.settings.specs.declared.rows.Row.{Row}
+use Rattle.settings.specs.declared.settings.Settings.{Settings}
+use Rattle.settings.proofs.Lists.{Each, each-both, each-take, each-drop, map-each}
+use Rattle.settings.proofs.Storing.{Holding, Shaped, mixed-front, stored-row, stored-others, stored-shaped, upto-three}
+use Rattle.settings.proofs.Sheets.{sheet-holding, on-sheet, Distinct, sheet-distinct, distinct-cut, distinct-take, few, sheet-decides}
+use Rattle.settings.proofs.Keeping.{fitting-canon}
+use Rattle.lines.specs.Judging.{rowOf, judged, effect}
+use Rattle.lines.specs.Replies.{settingText}
+use Rattle.lines.specs.declared.verdict.Verdict.the-variants.{Writes}
+use Rattle.lines.proofs.Accepted.{lineOf, sheet-accepted}
+use Rattle.lines.proofs.Kept.{writes-fitting, effect-within, effect-shaped}
+
+-- ---- any lines
+
+-- the settings after lines, one after the other
+abbrev pub after : Model → Settings → List (List ℕ) → Settings
+after model s [] = s
+after model s (line ∷ lines) = after model (effect model s (judged model line)) lines
+
+module _ (model : Model) where
+  pub after-shaped : (lines : List (List ℕ)) (s : Settings) → Shaped s → Shaped (after model s lines)
+  after-shaped [] s sh = sh
+  after-shaped (line ∷ lines) s sh = after-shaped lines (effect model s (judged model line)) (effect-shaped model s sh (judged model line))
+
+  pub after-within : (lines : List (List ℕ)) (s : Settings) → Shaped s → within model s ≡ true → within model (after model s lines) ≡ true
+  after-within [] s sh w = w
+  after-within (line ∷ lines) s sh w =
+      after-within lines (effect model s (judged model line)) (effect-shaped model s sh (judged model line)) (effect-within model s sh line w)
+
+-- ---- one line
+
+-- a row has three places, so cells made a row are the cells of it
+row-cells : (n : ℕ) (r : Row) → n ≤ 3 → take n (listed (rowOf (take n (listed r)))) ≡ take n (listed r)
+row-cells n r = upto-three (λ m. take m (listed (rowOf (take m (listed r)))) ≡ take m (listed r)) refl refl refl refl n
+
+module _ (model : Model) (a : Settings) where
+  -- the row that a's line of a setting hands over
+  abbrev sent : Setting → Row
+  sent x = rowOf (cells model a x)
+
+  sent-cells : (x : Setting) → take (count model x) (listed (sent x)) ≡ cells model a x
+  sent-cells x = row-cells (count model x) (row a x) (few model x)
+
+  -- the settings b after that line
+  abbrev next : Settings → Setting → Settings
+  next b x = effect model b (judged model (lineOf model a x))
+
+  module _ (wa : within model a ≡ true) where
+    line-accepted : {x : Setting} → Holding x → judged model (lineOf model a x) ≡ Writes (Of x) (sent x)
+    line-accepted {x} = on-sheet (λ x. judged model (lineOf model a x) ≡ Writes (Of x) (sent x)) model (sheet-accepted model a wa) x
+
+    module _ (b : Settings) {x : Setting} (h : Holding x) where
+      line-shaped : Shaped b → Shaped (next b x)
+      line-shaped sh = rw (line-accepted h) (stored-shaped model b (sent x) (Of x) sh)
+
+      line-named : Shaped b → cells model (next b x) x ≡ cells model a x
+      line-named sh =
+          let c = fitting-canon model (sent x) h (writes-fitting model (lineOf model a x) (Of x) (sent x) (line-accepted h)) in
+          rw (line-accepted h, stored-row model b (sent x) sh h c) (mixed-front (count model x) (sent x) (row b x) (few model x) ∙ sent-cells x)
+
+      line-others : {y : Setting} → Holding y → y ≢ x → cells model (next b x) y ≡ cells model b y
+      line-others g d = rw (line-accepted h, stored-others model b (sent x) h g d)
+
+    -- ---- lines of any settings
+
+    -- what is not named stays as it was
+    pub copied-others : (xs : List Setting) (b : Settings) → Each Holding xs → {y : Setting} → Holding y → Each (λ x. y ≢ x) xs
+        → cells model (after model b (map (lineOf model a) xs)) y ≡ cells model b y
+    copied-others [] b h g d = refl
+    copied-others (x ∷ xs) b h g d = copied-others xs (next b x) (h .1) g (d .1) ∙ line-others b (h .0) g (d .0)
+
+    -- and what is named is a's: no later line names it again
+    pub copied-named : (xs : List Setting) (b : Settings) → Each Holding xs → Distinct xs → Shaped b
+        → Each (λ x. cells model (after model b (map (lineOf model a) xs)) x ≡ cells model a x) xs
+    copied-named [] b h d sh = tt
+    copied-named (x ∷ xs) b h d sh =
+        (copied-others xs (next b x) (h .1) (h .0) (d .0) ∙ line-named b (h .0) sh, copied-named xs (next b x) (h .1) (d .1) (line-shaped b (h .0) sh))
+
+-- ---- the sheet
+
+module _ (model : Model) (a b : Settings) where
+  -- the second box after the first n lines of the first's sheet
+  abbrev pub afterLines : ℕ → Settings
+  afterLines n = after model b (map (lineOf model a) (take n (sheet model)))
+
+  module _ (sa : Shaped a) (sb : Shaped b) (wa : within model a ≡ true) (wb : within model b ≡ true) where
+    cut-holding : (n : ℕ) → Each Holding (take n (sheet model))
+    cut-holding n = each-take Holding n (sheet model) (sheet-holding model)
+
+    -- cut after n lines, the settings named so far are the first box's
+    pub cut-named : (n : ℕ) → Each (λ x. cells model (afterLines n) x ≡ cells model a x) (take n (sheet model))
+    cut-named n =
+        copied-named model a wa (take n (sheet model)) b (cut-holding n) (distinct-take n (sheet model) (sheet-distinct model)) sb
+
+    -- the rest are the second box's own
+    pub cut-others : (n : ℕ) → Each (λ x. cells model (afterLines n) x ≡ cells model b x) (drop n (sheet model))
+    cut-others n =
+        each-both Holding (λ y. Each (λ x. y ≢ x) (take n (sheet model))) (λ x. cells model (afterLines n) x ≡ cells model b x)
+        (λ y. copied-others model a wa (take n (sheet model)) b (cut-holding n))
+        (drop n (sheet model)) (each-drop Holding n (sheet model) (sheet-holding model)) (distinct-cut n (sheet model) (sheet-distinct model))
+
+    -- and it stays within its limits
+    pub cut-shaped : (n : ℕ) → Shaped (afterLines n)
+    cut-shaped n = after-shaped model (map (lineOf model a) (take n (sheet model))) b sb
+
+    pub cut-within : (n : ℕ) → within model (afterLines n) ≡ true
+    cut-within n = after-within model (map (lineOf model a) (take n (sheet model))) b sb wb
+
+    -- after all of the sheet the settings are equal
+    pub whole-copy : after model b (map (lineOf model a) (sheet model)) ≡ a
+    whole-copy =
+        let lines = map (lineOf model a) (sheet model) in
+        sheet-decides model (after model b lines) a (after-shaped model lines b sb) sa (after-within model lines b sb wb) wa .0
+        (copied-named model a wa (sheet model) b (sheet-holding model) (sheet-distinct model) sb)
+
+    -- two boxes give equal sheets exactly when their settings are equal
+    pub equal-sheets : (map (settingText model a) (sheet model) ≡ map (settingText model b) (sheet model)) ↔ (a ≡ b)
+    equal-sheets = (forth, λ e. ap (λ (s : Settings). map (settingText model s) (sheet model)) e)
+      where
+        -- equal texts are equal lines, and those are judged equal
+        same-cells : (x : Setting) → Holding x → settingText model a x ≡ settingText model b x → cells model a x ≡ cells model b x
+        same-cells x h e =
+            cc (line-accepted model a wa h, line-accepted model b wb h, sent-cells model a x, sent-cells model b x)
+
+        forth : map (settingText model a) (sheet model) ≡ map (settingText model b) (sheet model) → a ≡ b
+        forth e =
+            sheet-decides model a b sa sb wa wb .0
+            (each-both Holding (λ x. settingText model a x ≡ settingText model b x) (λ x. cells model a x ≡ cells model b x) same-cells
+            (sheet model) (sheet-holding model) (map-each (settingText model a) (settingText model b) (sheet model) e))

@@ -32,7 +32,7 @@ use Rattle.settings.specs.declared.kinds.Limits.{Limits}
 use Rattle.settings.specs.declared.kinds.Kind.{Kind}
 use Rattle.settings.specs.declared.kinds.Kind.the-variants.{Whole, Factor, Threshold as Level}
 use Rattle.settings.specs.declared.rows.Row.{Row}
-use Rattle.settings.specs.declared.settings.Settings.{Settings}
+use Rattle.settings.specs.declared.Settings.{Settings}
 use Rattle.settings.proofs.Lists.{Each}
 use Rattle.settings.proofs.Places.{cell, places-row}
 use Rattle.settings.proofs.Storing.{Holding, Shaped, stored-shaped}

@@ -24,7 +24,7 @@ use Rattle.settings.specs.declared.model.Model.the-variants.{Tpg361, Tpg362}
 use Rattle.settings.specs.declared.mnemonic.Setting.the-variants.{Cal}
 use Rattle.settings.specs.declared.mnemonic.Mnemonic.the-variants.{Setting as Of, Cf}
 use Rattle.settings.specs.declared.kinds.Limits.{Limits}
-use Rattle.settings.specs.declared.settings.Settings.{Settings}
+use Rattle.settings.specs.declared.Settings.{Settings}
 use Rattle.lines.specs.Splitting.{fields, joined}
 use Rattle.lines.specs.Fields.{errorWord, limited, ranged, thresholdField}
 use Rattle.lines.specs.Judging.{readings, formed, valued, withFields, judged}

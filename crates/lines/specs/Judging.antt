@@ -16,7 +16,7 @@ use Rattle.settings.specs.declared.mnemonic.Named.{Named}
 use Rattle.settings.specs.declared.mnemonic.Named.the-variants.{Known, Unknown}
 use Rattle.settings.specs.declared.kinds.Kind.{Kind}
 use Rattle.settings.specs.declared.rows.Row.{Row}
-use Rattle.settings.specs.declared.settings.Settings.{Settings}
+use Rattle.settings.specs.declared.Settings.{Settings}
 use Rattle.lines.specs.Splitting.{fields}
 use Rattle.lines.specs.Fields.{read}
 use Rattle.lines.specs.declared.verdict.Fault.the-variants.{Syntax, Hardware}

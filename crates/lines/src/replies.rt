@@ -6,11 +6,11 @@ ghost use Rattle.lines.specs.Fields.{write};
 ghost use Rattle.lines.specs.Replies.{more, settingText, lineEnd};
 use numbers::threshold::Threshold;
 use numerals::writing::write_threshold;
+use settings::Settings;
 use settings::kinds::Kind;
 use settings::mnemonic::Mnemonic;
 use settings::mnemonic::Setting;
 use settings::model::Model;
-use settings::settings::Settings;
 use text::Text;
 
 fn write_cell(t: Text, kind: Kind, cell: Threshold) -> Text

@@ -24,7 +24,7 @@ use Rattle.settings.specs.declared.mnemonic.Mnemonic.the-variants.{Setti
 use Rattle.settings.specs.declared.kinds.Kind.{Kind}
 use Rattle.settings.specs.declared.kinds.Kind.the-variants.{Whole, Factor, Threshold as Level}
 use Rattle.settings.specs.declared.rows.Row.{Row}
-use Rattle.settings.specs.declared.settings.Settings.{Settings}
+use Rattle.settings.specs.declared.Settings.{Settings}
 use Rattle.settings.proofs.Lists.{Each, each-at, every-each}
 use Rattle.settings.proofs.Storing.{Holding, Shaped, canon, stored-row, stored-others, factor-row, factor-others}
 use Rattle.settings.proofs.Storing.Holding.{uni, fil, cal, dcd, sp, kept}

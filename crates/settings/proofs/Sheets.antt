@@ -26,7 +26,7 @@ use Rattle.settings.specs.declared.mnemonic.Mnemonic.the-variants.{Setti
 use Rattle.settings.specs.declared.kinds.Kind.{Kind}
 use Rattle.settings.specs.declared.kinds.Kind.the-variants.{Threshold as Level}
 use Rattle.settings.specs.declared.rows.Row.{Row}
-use Rattle.settings.specs.declared.settings.Settings.{Settings}
+use Rattle.settings.specs.declared.Settings.{Settings}
 use Rattle.settings.proofs.Lists.{Each, each-map, each-both, each-all, each-take, each-drop, each-at, every-each, each-every}
 use Rattle.settings.proofs.Storing.{Holding, Shaped, rows-decide}
 use Rattle.settings.proofs.Storing.Holding.{uni, fil, cal, dcd, sp, kept}

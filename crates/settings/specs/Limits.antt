@@ -18,7 +18,7 @@ use Rattle.settings.specs.declared.kinds.Limits.{Limits}
 use Rattle.settings.specs.declared.kinds.Kind.{Kind}
 use Rattle.settings.specs.declared.kinds.Kind.the-variants.{Whole, Factor, Threshold as Level}
 use Rattle.settings.specs.declared.rows.Row.{Row}
-use Rattle.settings.specs.declared.settings.Settings.{Settings}
+use Rattle.settings.specs.declared.Settings.{Settings}
 
 -- a plain number from the least to the most
 abbrev pub inside : Limits → Threshold → Bool

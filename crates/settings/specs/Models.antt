@@ -7,8 +7,8 @@ use lib.IntN.{negsuc}
 use Rattle.text.specs.Text.{ascii}
 use Rattle.settings.specs.declared.model.Model.{Model}
 use Rattle.settings.specs.declared.model.Model.the-variants.{Tpg361, Tpg362}
-use Rattle.settings.specs.declared.settings.Switching.{Switching}
-use Rattle.settings.specs.declared.settings.Settings.{Settings}
+use Rattle.settings.specs.declared.Switching.{Switching}
+use Rattle.settings.specs.declared.Settings.{Settings}
 
 -- "a TPG 361 (one channel) or TPG 362 (two channels)"
 abbrev pub channels : Model → ℕ

@@ -1,12 +1,12 @@
 // The limits of settings on a model.
 ghost use mathlib.Core.Path.{_≡_};
 ghost use Rattle.settings.specs.Limits.{inside, fits, sameCell, placeWithin, rowWithin, within};
+use crate::Settings;
 use crate::kinds::Kind;
 use crate::kinds::Limits;
 use crate::mnemonic::Mnemonic;
 use crate::mnemonic::Setting;
 use crate::model::Model;
-use crate::settings::Settings;
 use numbers::threshold::Threshold;
 
 fn is_inside(l: Limits, cell: Threshold) -> bool

@@ -3,8 +3,8 @@ ghost use mathlib.Core.Path.{_≡_};
 ghost use Rattle.text.specs.Text.{puts};
 ghost use Rattle.settings.specs.Models.{channels, names, startsOn, defaults};
 ghost use Rattle.settings.specs.Mnemonics.{sheet};
-use crate::settings::Settings;
-use crate::settings::Switching;
+use crate::Settings;
+use crate::Switching;
 use numbers::threshold::Threshold;
 use text::Text;
 

@@ -3,11 +3,11 @@ ghost use mathlib.Core.Path.{_≡_};
 ghost use mathlib.Core.Bool.{cond};
 ghost use lib.ListN.{getD, set};
 ghost use Rattle.settings.specs.Rows.{plain, pairRow, switchRow, row, switchingOf, withRow, mixed, stored};
+use crate::Settings;
+use crate::Switching;
 use crate::mnemonic::Mnemonic;
 use crate::mnemonic::Setting;
 use crate::model::Model;
-use crate::settings::Settings;
-use crate::settings::Switching;
 use numbers::threshold::Threshold;
 
 // Up to three cells; a whole number or a factor is a cell with exponent 0.

@@ -5,8 +5,8 @@ use lib.Seq.{set-out}
 use Rattle.settings.specs.Rows.{withStored, number}
 use borrow.Author.Needs.{needs}
 use native.Mathlib.Omega.{arith}
-use Rattle.settings.proofs.settings.Settings.with_row.Statement.{statement}
-use Rattle.settings.proofs.settings.Settings.with_row.Tie as tie
+use Rattle.settings.proofs.Settings.with_row.Statement.{statement}
+use Rattle.settings.proofs.Settings.with_row.Tie as tie
 
 enum-told : tie.Need-enum-told
 enum-told c = search needs

@@ -8,8 +8,8 @@ use Rattle.settings.specs.declared.mnemonic.Setting.the-variants.{Uni}
 use Rattle.settings.proofs.Tabled.{every-here, every-not, every-end}
 use borrow.Author.Needs.{needs}
 use native.Mathlib.Omega.{arith}
-use Rattle.settings.proofs.settings.Settings.is_within.Statement.{statement}
-use Rattle.settings.proofs.settings.Settings.is_within.Tie as tie
+use Rattle.settings.proofs.Settings.is_within.Statement.{statement}
+use Rattle.settings.proofs.Settings.is_within.Tie as tie
 
 abbrev Inv-loop : tie.InvT-loop
 Inv-loop self model i₀ i = (i ≤ 17) × (every (rowWithin model self) (drop i (sheet model)) ≡ within model self)

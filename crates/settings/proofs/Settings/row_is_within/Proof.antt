@@ -1,6 +1,6 @@
 use borrow.Author.Needs.{needs}
-use Rattle.settings.proofs.settings.Settings.row_is_within.Statement.{statement}
-use Rattle.settings.proofs.settings.Settings.row_is_within.Tie as tie
+use Rattle.settings.proofs.Settings.row_is_within.Statement.{statement}
+use Rattle.settings.proofs.Settings.row_is_within.Tie as tie
 
 shape-requires : tie.Need-shape-requires
 shape-requires c κs = search needs

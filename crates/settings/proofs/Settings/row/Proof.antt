@@ -1,6 +1,6 @@
 use borrow.Author.Needs.{needs}
-use Rattle.settings.proofs.settings.Settings.row.Statement.{statement}
-use Rattle.settings.proofs.settings.Settings.row.Tie as tie
+use Rattle.settings.proofs.Settings.row.Statement.{statement}
+use Rattle.settings.proofs.Settings.row.Tie as tie
 
 enum-told : tie.Need-enum-told
 enum-told c = search needs

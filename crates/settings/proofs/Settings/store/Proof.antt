@@ -1,6 +1,6 @@
 use borrow.Author.Needs.{needs}
-use Rattle.settings.proofs.settings.Settings.store.Statement.{statement}
-use Rattle.settings.proofs.settings.Settings.store.Tie as tie
+use Rattle.settings.proofs.Settings.store.Statement.{statement}
+use Rattle.settings.proofs.Settings.store.Tie as tie
 
 enum-known-m : tie.Need-enum-known-m
 enum-known-m c = search needs

@@ -1,5 +1,5 @@
 -- The table of the stored settings' fields, entry by entry; the sheet, line by line.
-use Prim.Native.Nat.{ℕ, zero, suc, _+_, _≤_, _<_}
+use Prim.Native.Nat.{ℕ, zero, suc, _+_, _-_, _≤_, _<_}
 use mathlib.Core.Path.{_≡_, refl, sym, ap, _∙_}
 use mathlib.Core.List.{List, [], _∷_}
 use mathlib.Core.Bool.{Bool, true, false}
@@ -14,12 +14,12 @@ use Rattle.settings.specs.declared.model.Model.{Model}
 use Rattle.settings.specs.declared.kinds.Kind.{Kind}
 use Rattle.settings.specs.declared.kinds.Kind.the-variants.{Threshold}
 
--- the limits from ERA on, as two rows of numbers
+-- the limits behind ERA, as two rows of numbers
 abbrev leasts : List ℕ
-leasts = 0 ∷ 0 ∷ 0 ∷ 0 ∷ 1 ∷ 0 ∷ 0 ∷ 0 ∷ 0 ∷ []
+leasts = 0 ∷ 0 ∷ 0 ∷ 1 ∷ 0 ∷ 0 ∷ 0 ∷ 0 ∷ []
 
 abbrev mosts : List ℕ
-mosts = 3 ∷ 1 ∷ 1 ∷ 2 ∷ 24 ∷ 1 ∷ 2 ∷ 1 ∷ 6 ∷ []
+mosts = 1 ∷ 1 ∷ 2 ∷ 24 ∷ 1 ∷ 2 ∷ 1 ∷ 6 ∷ []
 
 abbrev behindEra : List Kind
 behindEra = whole 0 1 ∷ whole 0 1 ∷ whole 0 2 ∷ whole 1 24 ∷ whole 0 1 ∷ whole 0 2 ∷ whole 0 1 ∷ whole 0 6 ∷ []
@@ -29,11 +29,13 @@ unfolding storedKinds
 stored-kind model k d h = ap (take 1) (drop-cons (storedTable model) k d h)
 
 -- every entry but the first is a plain range
-pub stored-entry : (model : Model) (k : ℕ) → k < 9 → (k ≡ 0 → ⊥) → storedKinds model k ≡ whole (getD leasts k 0) (getD mosts k 0) ∷ []
+pub stored-entry : (model : Model) (k : ℕ) → k < 9 → (k ≡ 0 → ⊥) → storedKinds model k ≡ whole (getD leasts (k - 1) 0) (getD mosts (k - 1) 0) ∷ []
 stored-entry model zero h n = absurd (n refl)
 stored-entry model (suc j) h n =
+    let q : j ≡ suc j - 1 = omega arith in
     stored-kind model (suc j) Threshold h
-    ∙ ap (λ (k : Kind). k ∷ []) (sym (tabled (λ j. whole (getD leasts (suc j) 0) (getD mosts (suc j) 0)) 8 behindEra refl j Threshold (omega arith)))
+    ∙ ap (λ (k : Kind). k ∷ []) (sym (tabled (λ j. whole (getD leasts j 0) (getD mosts j 0)) 8 behindEra refl j Threshold (omega arith)))
+    ∙ ap (λ (i : ℕ). whole (getD leasts i 0) (getD mosts i 0) ∷ []) q
 
 pub stored-past : (model : Model) (k : ℕ) → 9 ≤ k → storedKinds model k ≡ []
 unfolding storedKinds

@@ -71,10 +71,10 @@ fn one(k: Kind) -> Kinds
     }
 }
 
-// ERA EVA FMT LNG NAD PRE PRO PUC DCS; ERA's stand with the model
-const LEAST: [u32; 9] = [0, 0, 0, 0, 1, 0, 0, 0, 0];
+// EVA FMT LNG NAD PRE PRO PUC DCS, behind ERA, whose limits stand with the model
+const LEAST: [u32; 8] = [0, 0, 0, 1, 0, 0, 0, 0];
 
-const MOST: [u32; 9] = [3, 1, 1, 2, 24, 1, 2, 1, 6];
+const MOST: [u32; 8] = [1, 1, 2, 24, 1, 2, 1, 6];
 
 impl Model {
     // An assignment, or ERA: 3 needs channel 2.
@@ -117,7 +117,7 @@ impl Model {
             return one(self.assignment());
         }
         if i < 9 {
-            return one(whole(LEAST[i], MOST[i]));
+            return one(whole(LEAST[i - 1], MOST[i - 1]));
         }
         none()
     }

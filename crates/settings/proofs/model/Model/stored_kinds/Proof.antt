@@ -21,11 +21,17 @@ returns c =
     c .one .ensures ∙ ap (λ (x : Kind). packed (x ∷ [])) (c .before .assignment .ensures)
     ∙ ap (λ (k : ℕ). packed (storedKinds (c .before .before .before .args .self) k)) (sym (c .before .before .if1 .taken))
 
+sub-whole : tie.Need-sub-whole
+sub-whole c = search needs
+
 mul-whole : tie.Need-mul-whole
 mul-whole c = search needs
 
 array-read-whole : tie.Need-array-read-whole
 array-read-whole c = search needs
+
+sub-whole-2 : tie.Need-sub-whole-2
+sub-whole-2 c = search needs
 
 mul-whole-2 : tie.Need-mul-whole-2
 mul-whole-2 c = search needs
@@ -60,8 +66,10 @@ stored-kinds-spec =
     assignment-requires
     one-requires
     returns
+    sub-whole
     mul-whole
     array-read-whole
+    sub-whole-2
     mul-whole-2
     array-read-whole-2
     whole-requires

@@ -246,16 +246,15 @@ module _ (model : Model) where
   judged-parts [] = rw (not-three model [] (λ e. omega arith))
   judged-parts (b ∷ line) = refl
 
-  pub line-named : (s : List ℕ) (c : Named) → recognised model (word s) ≡ c → named model c (drop 1 (fields s)) ≡ judged model s
-  line-named s c p = sym (judged-parts s ∙ ap (parted model) (first-field s) ∙ ap (λ (c : Named). named model c (drop 1 (fields s))) p)
+  -- the word before the first comma, which ends at the place e, names the mnemonic
+  pub line-named : (s : List ℕ) (e : ℕ) → e ≡ length (word s) → (c : Named) → recognised model (take e s) ≡ c → named model c (drop 1 (fields s)) ≡ judged model s
+  line-named s e q c p =
+      let w : word s ≡ take e s = word-is s .1 ∙ ap (λ (n : ℕ). take n s) (sym q) in
+      sym (judged-parts s ∙ ap (parted model) (first-field s) ∙ ap (λ (c : Named). named model c (drop 1 (fields s))) (ap (recognised model) w ∙ p))
 
 -- ---- the mnemonic at the front of a line
 
--- what stands before the first comma
-pub word-front : (s : List ℕ) (e : ℕ) → e ≡ length (word s) → take e s ≡ word s
-word-front s e q = rw q (sym (word-is s .1))
-
--- three bytes of it are the word
+-- three letters are the word that ends behind them
 pub three-front : (s : List ℕ) → 3 ≤ length s → getD s 0 0 ∷ getD s 1 0 ∷ getD s 2 0 ∷ [] ≡ take 3 s
 three-front [] h = absurd (omega arith)
 three-front (x ∷ []) h = absurd (omega arith)

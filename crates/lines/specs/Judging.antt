@@ -1,4 +1,6 @@
--- A line is judged (01, "Bytes from the host": "A line is checked in this order, and the first fault decides").
+-- A line is judged (01, "Bytes from the host": "A line is checked in this order, and the first fault decides"). The tests in
+-- their order: bad or empty (`judged`), mnemonic unknown and PR2 or CF2 on a 361 (`named`), number of fields (`withFields`),
+-- form of every field (`formed`), value of every field (`valued`).
 use Prim.Native.Nat.{ℕ}
 use mathlib.Core.List.{List, [], _∷_, map}
 use mathlib.Core.Bool.{cond}

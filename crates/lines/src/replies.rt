@@ -3,7 +3,7 @@ ghost use mathlib.Core.Path.{_≡_};
 ghost use mathlib.Core.List.{_++_};
 ghost use Rattle.text.specs.Text.{empty, puts};
 ghost use Rattle.lines.specs.Fields.{write};
-ghost use Rattle.lines.specs.Replies.{more, settingText, lineEnd};
+ghost use Rattle.lines.specs.Replies.{more, settingText, factorsText, lineEnd};
 use numbers::threshold::Threshold;
 use numerals::writing::write_threshold;
 use settings::Settings;
@@ -63,4 +63,11 @@ pub fn setting_reply(model: Model, s: Settings, x: Setting) -> Text
     ensures { λ r. ⌜ r ≡ puts empty (settingText model s x ++ lineEnd) ⌝ }
 {
     end_line(write_setting(Text::empty(), model, s, x))
+}
+
+// What the box sends when it is asked for CF1 or CF2: the factors of all its channels.
+pub fn factors_reply(model: Model, s: Settings) -> Text
+    ensures { λ r. ⌜ r ≡ puts empty (factorsText model s ++ lineEnd) ⌝ }
+{
+    setting_reply(model, s, Setting::Cal)
 }

@@ -20,6 +20,10 @@ abbrev pub names : Model → List ℕ
 names Tpg361 = ascii "TPG361,PTG28040"
 names Tpg362 = ascii "TPG362,PTG28290"
 
+-- "otherwise starts as a fresh box does: no line, selection, error or reading, mode 1 streaming"
+abbrev pub powerOnMode : Model → ℕ
+powerOnMode model = 1
+
 -- "Assignment 0 is off, 1 is on. For 2 and 3 (channel 1, 2) .. a fresh box or a power cycle sets it off."
 abbrev pub startsOn : Model → ℕ → Bool
 startsOn model assignment = eqb assignment 1

@@ -1,7 +1,7 @@
 // The models, and the rules that belong to one.
 ghost use mathlib.Core.Path.{_≡_};
 ghost use Rattle.text.specs.Text.{puts};
-ghost use Rattle.settings.specs.Models.{channels, names, startsOn, defaults};
+ghost use Rattle.settings.specs.Models.{channels, names, powerOnMode, startsOn, defaults};
 ghost use Rattle.settings.specs.Mnemonics.{sheet};
 use crate::Settings;
 use crate::Switching;
@@ -20,9 +20,6 @@ const NAMES_362: [u8; 15] = *b"TPG362,PTG28290";
 impl Model {
     // how many lines a sheet of settings has
     pub const SHEET_LENGTH: usize = 17;
-
-    // the mode that a box streams in from power-on
-    pub const POWER_ON_MODE: u32 = 1;
 
     // the assignment of a switching function that is always on
     pub const ALWAYS_ON: u32 = 1;
@@ -46,7 +43,14 @@ impl Model {
         }
     }
 
-    // Whether a switching function of this assignment is on before any reading.
+    // The mode of COM that a box streams in from power-on.
+    pub fn power_on_mode(self) -> u32
+        ensures { λ r. ⌜ r ≡ powerOnMode self ⌝ }
+    {
+        1
+    }
+
+    // Whether a switching function of this assignment is on from power-on.
     pub fn starts_on(self, assignment: u32) -> bool
         ensures { λ r. ⌜ r ≡ startsOn self assignment ⌝ }
     {

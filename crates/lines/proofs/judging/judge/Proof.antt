@@ -1,10 +1,6 @@
--- The word before the first comma names the mnemonic (`word-front`).
-use mathlib.Core.Path.{_≡_, sym, ap, _∙_}
-use lib.ListN.{length}
-use Rattle.settings.specs.Mnemonics.{recognised}
+use mathlib.Core.Path.{sym, _∙_}
 use Rattle.settings.specs.declared.mnemonic.Named.the-variants.{Known, Unknown}
-use Rattle.lines.specs.Splitting.{word}
-use Rattle.lines.proofs.Walking.{end-inside, word-front, line-named}
+use Rattle.lines.proofs.Walking.{end-inside, line-named}
 use borrow.Author.Needs.{needs}
 use native.Mathlib.Omega.{arith}
 use Rattle.lines.proofs.judging.judge.Statement.{statement}
@@ -29,21 +25,15 @@ returns : tie.Need-returns
 returns c =
     let e = c .before .before .before .field-end in
     let a = c .before .before .before .before .before .args in
-    let s = a .line .now in
-    let q : e .result ≡ length (word s) = omega (arith, e .ensures) in
-    let p = ap (recognised (a .model)) (sym (word-front s (e .result) q)) ∙ sym (c .before .before .recognise .ensures) ∙ c .enum-told .given .1 in
-    line-named (a .model) s Unknown p
+    line-named (a .model) (a .line .now) (e .result) (omega (arith, e .ensures)) Unknown (sym (c .before .before .recognise .ensures) ∙ c .enum-told .given .1)
 
 returns-2 : tie.Need-returns-2
 returns-2 c =
-    let n = c .before .before .n in
-    let r = c .before .before .before .before .recognise in
+    let n = c .before .before .n .given in
     let e = c .before .before .before .before .before .field-end in
     let a = c .before .before .before .before .before .before .before .args in
-    let s = a .line .now in
-    let q : e .result ≡ length (word s) = omega (arith, e .ensures) in
-    let p = ap (recognised (a .model)) (sym (word-front s (e .result) q)) ∙ sym (r .ensures) ∙ n .given .1 in
-    c .judge-known .ensures ∙ line-named (a .model) s (Known (n .given .0 .0)) p
+    c .judge-known .ensures
+    ∙ line-named (a .model) (a .line .now) (e .result) (omega (arith, e .ensures)) (Known (n .0 .0)) (sym (c .before .before .before .before .recognise .ensures) ∙ n .1)
 
 pub judge-spec : {M : Type 1} → statement M
 judge-spec =

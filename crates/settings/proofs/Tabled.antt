@@ -8,9 +8,15 @@ use native.Mathlib.Numerals.{add-one}
 use lib.ListN.{length, getD, take, drop, drop-of-length-le}
 use lib.Seq.{drop-cons}
 use Rattle.text.proofs.Tables.{tabled}
-use Rattle.settings.specs.Kinds.{whole, storedTable, storedKinds}
-use Rattle.settings.specs.Limits.{every}
+use Rattle.settings.specs.Models.{defaults}
+use Rattle.settings.specs.Mnemonics.{sheetAt}
+use Rattle.settings.specs.Kinds.{whole, kinds, storedTable, storedKinds}
+use Rattle.settings.specs.Rows.{row}
+use Rattle.settings.specs.Limits.{rowFits, rowWithin, every}
 use Rattle.settings.specs.declared.model.Model.{Model}
+use Rattle.settings.specs.declared.mnemonic.Setting.{Setting}
+use Rattle.settings.specs.declared.mnemonic.Mnemonic.the-variants.{Setting as Of}
+use Rattle.settings.specs.declared.Settings.{Settings}
 use Rattle.settings.specs.declared.kinds.Kind.{Kind}
 use Rattle.settings.specs.declared.kinds.Kind.the-variants.{Threshold}
 
@@ -54,3 +60,8 @@ module _ {A : Type 0} (p : A → Bool) (d : A) (xs : List A) (i : ℕ) where
   pub every-end : length xs ≤ i → every p (drop i xs) ≡ true
   unfolding every
   every-end h = rw (drop-of-length-le xs h)
+
+-- what the code tests of a line of the sheet is what the limits ask of it
+pub line-tested : (model : Model) (s d : Settings) (x : Setting) (i : ℕ) (t : Bool) → t ≡ rowFits (kinds model (Of x)) (row s x) (row d x) → d ≡ defaults model
+    → x ≡ sheetAt model i → rowWithin model s (sheetAt model i) ≡ t
+line-tested model s d x i t e q p = sym (e ∙ ap (λ (d : Settings). rowFits (kinds model (Of x)) (row s x) (row d x)) q ∙ ap (rowWithin model s) p)

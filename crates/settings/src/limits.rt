@@ -1,6 +1,9 @@
 // The limits of settings on a model.
 ghost use mathlib.Core.Path.{_≡_};
-ghost use Rattle.settings.specs.Limits.{inside, fits, sameCell, placeWithin, rowWithin, within};
+ghost use Rattle.settings.specs.Kinds.{kinds};
+ghost use Rattle.settings.specs.Rows.{row};
+ghost use Rattle.settings.specs.declared.mnemonic.Mnemonic.the-variants.{Setting as Of};
+ghost use Rattle.settings.specs.Limits.{inside, fits, sameCell, placeWithin, rowFits, within};
 use crate::Settings;
 use crate::kinds::Kind;
 use crate::kinds::Limits;
@@ -14,6 +17,7 @@ fn is_inside(l: Limits, cell: Threshold) -> bool
 {
     let n = cell.mantissa;
     let e = cell.exponent;
+    // as numbers: `==` would compare the bits
     (0 <= e) & (e <= 0) & ((l.least <= n) & (n <= l.most))
 }
 
@@ -49,13 +53,13 @@ fn place_is_within(has: bool, kind: Kind, cell: Threshold, default: Threshold) -
 }
 
 impl Settings {
-    fn row_is_within(self, model: Model, x: Setting) -> bool
-        ensures { λ r. ⌜ r ≡ rowWithin model self x ⌝ }
+    fn row_is_within(self, model: Model, defaults: Settings, x: Setting) -> bool
+        ensures { λ r. ⌜ r ≡ rowFits (kinds model (Of x)) (row self x) (row defaults x) ⌝ }
     {
         let ks = model.shape(Mnemonic::Setting(x));
         let n = ks.count;
         let r = self.row(x);
-        let d = model.defaults().row(x);
+        let d = defaults.row(x);
         let k = ks.first;
         let l = ks.second;
         let o = ks.third;
@@ -69,9 +73,10 @@ impl Settings {
     pub fn is_within(self, model: Model) -> bool
         ensures { λ r. ⌜ r ≡ within model self ⌝ }
     {
+        let defaults = model.defaults();
         let mut i: usize = 0;
         while i < Model::SHEET_LENGTH {
-            if self.row_is_within(model, model.sheet_at(i)) {
+            if self.row_is_within(model, defaults, model.sheet_at(i)) {
                 i += 1;
             } else {
                 return false;

@@ -1,21 +1,24 @@
 -- The test from line i of the sheet on is the test over the whole of it.
 use Prim.Native.Nat.{_≤_, _-_}
-use mathlib.Core.Path.{_≡_, refl, sym, ap, _∙_}
+use mathlib.Core.Path.{_≡_, refl, sym, _∙_}
 use lib.ListN.{drop}
 use Rattle.settings.specs.Mnemonics.{sheet}
 use Rattle.settings.specs.Limits.{every, rowWithin, within}
 use Rattle.settings.specs.declared.mnemonic.Setting.the-variants.{Uni}
-use Rattle.settings.proofs.Tabled.{every-here, every-not, every-end}
+use Rattle.settings.proofs.Tabled.{every-here, every-not, every-end, line-tested}
 use borrow.Author.Needs.{needs}
 use native.Mathlib.Omega.{arith}
 use Rattle.settings.proofs.Settings.is_within.Statement.{statement}
 use Rattle.settings.proofs.Settings.is_within.Tie as tie
 
 abbrev Inv-loop : tie.InvT-loop
-Inv-loop self model i₀ i = (i ≤ 17) × (every (rowWithin model self) (drop i (sheet model)) ≡ within model self)
+Inv-loop self model defaults i₀ i = (i ≤ 17) × (every (rowWithin model self) (drop i (sheet model)) ≡ within model self)
 
 abbrev μ-loop : tie.MeasureT-loop
-μ-loop self model i₀ i = 17 - i
+μ-loop self model defaults i₀ i = 17 - i
+
+defaults-requires : tie.Need-defaults-requires Inv-loop μ-loop
+defaults-requires c κs = search needs
 
 loop-holds : tie.Need-loop-holds Inv-loop μ-loop
 unfolding within
@@ -35,24 +38,28 @@ loop-less c = search needs
 
 loop-again : tie.Need-loop-again Inv-loop μ-loop
 loop-again c =
+    let r = c .before .row-is-within in
+    let x = c .before .before .sheet-at in
     let l = c .before .before .before .before .loop in
-    let a = c .before .before .before .before .before .args in
-    let p = rowWithin (a .model) (a .self) in
-    let s = c .before .row-is-within .ensures ∙ ap p (c .before .before .sheet-at .ensures) in
-    (omega arith, sym (every-here p Uni (sheet (a .model)) (l .i) (c .before .before .before .loop-test .taken) (sym s ∙ c .if1 .taken)) ∙ l .inv .1)
+    let d = c .before .before .before .before .before in
+    let a = d .before .args in
+    let t = line-tested (a .model) (a .self) (d .defaults .result) (x .result) (l .i) (r .result) (r .ensures) (d .defaults .ensures) (x .ensures) in
+    (omega arith, sym (every-here (rowWithin (a .model) (a .self)) Uni (sheet (a .model)) (l .i) (c .before .before .before .loop-test .taken) (t ∙ c .if1 .taken)) ∙ l .inv .1)
 
 returns : tie.Need-returns Inv-loop μ-loop
 returns c =
+    let r = c .before .row-is-within in
+    let x = c .before .before .sheet-at in
     let l = c .before .before .before .before .loop in
-    let a = c .before .before .before .before .before .args in
-    let p = rowWithin (a .model) (a .self) in
-    let s = c .before .row-is-within .ensures ∙ ap p (c .before .before .sheet-at .ensures) in
-    sym (every-not p Uni (sheet (a .model)) (l .i) (c .before .before .before .loop-test .taken) (sym s ∙ c .if1 .left)) ∙ l .inv .1
+    let d = c .before .before .before .before .before in
+    let a = d .before .args in
+    let t = line-tested (a .model) (a .self) (d .defaults .result) (x .result) (l .i) (r .result) (r .ensures) (d .defaults .ensures) (x .ensures) in
+    sym (every-not (rowWithin (a .model) (a .self)) Uni (sheet (a .model)) (l .i) (c .before .before .before .loop-test .taken) (t ∙ c .if1 .left)) ∙ l .inv .1
 
 returns-2 : tie.Need-returns-2 Inv-loop μ-loop
 returns-2 c =
     let l = c .before .loop in
-    let a = c .before .before .args in
+    let a = c .before .before .before .args in
     sym (every-end (rowWithin (a .model) (a .self)) Uni (sheet (a .model)) (l .i) (c .loop-test .left)) ∙ l .inv .1
 
 pub is-within-spec : {M : Type 1} → statement M
@@ -61,6 +68,7 @@ is-within-spec =
     (tie.spec
     Inv-loop
     μ-loop
+    defaults-requires
     loop-holds
     sheet-at-requires
     row-is-within-requires

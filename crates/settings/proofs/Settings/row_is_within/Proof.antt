@@ -8,9 +8,6 @@ shape-requires c κs = search needs
 row-requires : tie.Need-row-requires
 row-requires c κs = search needs
 
-defaults-requires : tie.Need-defaults-requires
-defaults-requires c κs = search needs
-
 row-requires-2 : tie.Need-row-requires-2
 row-requires-2 c κs = search needs
 
@@ -24,7 +21,7 @@ place-is-within-requires-3 : tie.Need-place-is-within-requires-3
 place-is-within-requires-3 c κs = search needs
 
 returns : tie.Need-returns
-returns c = rw (c .place-is-within3 .ensures, c .before .place-is-within2 .ensures, c .before .before .place-is-within .ensures, c .before .before .before .row2 .ensures, c .before .before .before .before .defaults .ensures, c .before .before .before .before .before .row .ensures, c .before .before .before .before .before .before .shape .ensures)
+returns c = rw (c .place-is-within3 .ensures, c .before .place-is-within2 .ensures, c .before .before .place-is-within .ensures, c .before .before .before .row2 .ensures, c .before .before .before .before .row .ensures, c .before .before .before .before .before .shape .ensures)
 
 pub row-is-within-spec : {M : Type 1} → statement M
 row-is-within-spec =
@@ -32,7 +29,6 @@ row-is-within-spec =
     (tie.spec
     shape-requires
     row-requires
-    defaults-requires
     row-requires-2
     place-is-within-requires
     place-is-within-requires-2

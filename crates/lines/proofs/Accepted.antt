@@ -14,7 +14,8 @@ use Rattle.settings.specs.Models.{channels, defaults}
 use Rattle.settings.specs.Mnemonics.{sheet, known, name, same, found, recognised, channelOf}
 use Rattle.settings.specs.Kinds.{kinds, storedKinds}
 use Rattle.settings.specs.Rows.{plain, row, listed, cells}
-use Rattle.settings.specs.Limits.{fits, every, within}
+use Rattle.settings.specs.Lists.{every, Each}
+use Rattle.settings.specs.Limits.{fits, within}
 use Rattle.settings.specs.declared.model.Model.{Model}
 use Rattle.settings.specs.declared.model.Model.the-variants.{Tpg361, Tpg362}
 use Rattle.settings.specs.declared.mnemonic.Setting.{Setting}
@@ -24,12 +25,13 @@ use Rattle.settings.specs.declared.mnemonic.Named.the-variants.{Known}
 use Rattle.settings.specs.declared.kinds.Kind.{Kind}
 use Rattle.settings.specs.declared.kinds.Kind.the-variants.{Threshold as Level}
 use Rattle.settings.specs.declared.Settings.{Settings}
-use Rattle.settings.proofs.Lists.{Each, each-map, each-both, every-each, map-each}
+use Rattle.settings.proofs.Lists.{each-map, each-both, every-each, map-each}
 use Rattle.settings.proofs.Places.{row-places}
 use Rattle.settings.proofs.Storing.{Holding}
 use Rattle.settings.proofs.Sheets.{sheet-holding, on-sheet, few, within-rows, sheet-each}
 use Rattle.lines.specs.Splitting.{fields, joined}
 use Rattle.lines.specs.Judging.{readings, formed, valued, cellOf, rowOf, judgedFields, withFields, parted, judged}
+use Rattle.lines.specs.Sheets.{lineOf}
 use Rattle.lines.specs.Replies.{texts, settingText}
 use Rattle.lines.specs.declared.verdict.Field.{Field}
 use Rattle.lines.specs.declared.verdict.Field.the-variants.{Held}
@@ -188,10 +190,6 @@ cells-fit model s w x h =
     let d = row (defaults model) x in
     fit-places ks (listed r) (few model x)
     (λ i l. rw (lt-ltb i (length ks) l) at (row-places ks r d (within-rows model s w x h) i (omega (arith, few model x))))
-
--- a setting's line of the sheet: its name, a comma and its reply
-abbrev pub lineOf : Model → Settings → Setting → List ℕ
-lineOf model s x = name (Of x) ++ (code "," ∷ settingText model s x)
 
 pub sheet-accepted : (model : Model) (s : Settings) → within model s ≡ true
     → Each (λ x. judged model (lineOf model s x) ≡ Writes (Of x) (rowOf (cells model s x))) (sheet model)

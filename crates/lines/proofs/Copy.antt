@@ -7,28 +7,25 @@ use mathlib.Core.Logic.{_≢_, _↔_}
 use lib.ListN.{take, drop}
 use Rattle.settings.specs.Mnemonics.{sheet}
 use Rattle.settings.specs.Rows.{row, listed, count, cells}
-use Rattle.settings.specs.Limits.{within}
+use Rattle.settings.specs.Limits.{within, Shaped}
 use Rattle.settings.specs.declared.model.Model.{Model}
 use Rattle.settings.specs.declared.mnemonic.Setting.{Setting}
 use Rattle.settings.specs.declared.mnemonic.Mnemonic.the-variants.{Setting as Of}
 use Rattle.settings.specs.declared.rows.Row.{Row}
 use Rattle.settings.specs.declared.Settings.{Settings}
-use Rattle.settings.proofs.Lists.{Each, each-both, each-take, each-drop, map-each}
-use Rattle.settings.proofs.Storing.{Holding, Shaped, mixed-front, stored-row, stored-others, stored-shaped, upto-three}
+use Rattle.settings.specs.Lists.{Each}
+use Rattle.settings.proofs.Lists.{each-both, each-take, each-drop, map-each}
+use Rattle.settings.proofs.Storing.{Holding, mixed-front, stored-row, stored-others, stored-shaped, upto-three}
 use Rattle.settings.proofs.Sheets.{sheet-holding, on-sheet, Distinct, sheet-distinct, distinct-cut, distinct-take, few, sheet-decides}
 use Rattle.settings.proofs.Keeping.{fitting-canon}
 use Rattle.lines.specs.Judging.{rowOf, judged, effect}
 use Rattle.lines.specs.Replies.{settingText}
 use Rattle.lines.specs.declared.verdict.Verdict.the-variants.{Writes}
-use Rattle.lines.proofs.Accepted.{lineOf, sheet-accepted}
+use Rattle.lines.specs.Sheets.{lineOf, after}
+use Rattle.lines.proofs.Accepted.{sheet-accepted}
 use Rattle.lines.proofs.Kept.{writes-fitting, effect-within, effect-shaped}
 
 -- ---- any lines
-
--- the settings after lines, one after the other
-abbrev pub after : Model → Settings → List (List ℕ) → Settings
-after model s [] = s
-after model s (line ∷ lines) = after model (effect model s (judged model line)) lines
 
 module _ (model : Model) where
   pub after-shaped : (lines : List (List ℕ)) (s : Settings) → Shaped s → Shaped (after model s lines)

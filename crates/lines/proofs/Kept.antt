@@ -22,7 +22,7 @@ use Rattle.settings.specs.Models.{channels}
 use Rattle.settings.specs.Mnemonics.{known, name, same, found, recognised, channelOf}
 use Rattle.settings.specs.Kinds.{kinds}
 use Rattle.settings.specs.Rows.{plain, pairRow, stored}
-use Rattle.settings.specs.Limits.{inside, fits, placeWithin, within}
+use Rattle.settings.specs.Limits.{inside, fits, placeWithin, within, Shaped}
 use Rattle.settings.specs.declared.model.Model.{Model}
 use Rattle.settings.specs.declared.mnemonic.Mnemonic.{Mnemonic}
 use Rattle.settings.specs.declared.mnemonic.Mnemonic.the-variants.{Setting as Of, Cf, Query as Asked, Com, Sav}
@@ -33,9 +33,9 @@ use Rattle.settings.specs.declared.kinds.Kind.{Kind}
 use Rattle.settings.specs.declared.kinds.Kind.the-variants.{Whole, Factor, Threshold as Level}
 use Rattle.settings.specs.declared.rows.Row.{Row}
 use Rattle.settings.specs.declared.Settings.{Settings}
-use Rattle.settings.proofs.Lists.{Each}
+use Rattle.settings.specs.Lists.{Each}
 use Rattle.settings.proofs.Places.{cell, places-row}
-use Rattle.settings.proofs.Storing.{Holding, Shaped, stored-shaped}
+use Rattle.settings.proofs.Storing.{Holding, stored-shaped}
 use Rattle.settings.proofs.Sheets.{sheet-holding, known-each}
 use Rattle.settings.proofs.Keeping.{Fitting, stored-within, factor-within}
 use Rattle.lines.specs.Splitting.{fields}

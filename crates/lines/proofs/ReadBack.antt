@@ -22,7 +22,7 @@ use Rattle.settings.specs.Limits.{inside, fits}
 use Rattle.settings.specs.declared.kinds.Limits.{Limits}
 use Rattle.settings.specs.declared.kinds.Kind.{Kind}
 use Rattle.settings.specs.declared.kinds.Kind.the-variants.{Whole, Factor, Threshold as Level}
-use Rattle.settings.proofs.Lists.{Each}
+use Rattle.settings.specs.Lists.{Each}
 use Rattle.settings.proofs.Places.{fits-plain}
 use Rattle.lines.specs.Fields.{limited, ranged, thresholdField, read, write}
 use Rattle.lines.specs.declared.verdict.Field.the-variants.{Held}

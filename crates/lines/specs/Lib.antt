@@ -2,4 +2,5 @@ pub mod Splitting
 pub mod Fields
 pub mod Judging
 pub mod Replies
+pub mod Sheets
 pub mod Walk

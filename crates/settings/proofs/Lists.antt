@@ -5,14 +5,9 @@ use mathlib.Core.List.{List, [], _∷_, map}
 use mathlib.Core.Bool.{Bool, true}
 use lib.ListN.{getD, take, drop}
 use Rattle.numbers.proofs.Cases.{and-true}
-use Rattle.settings.specs.Limits.{every}
+use Rattle.settings.specs.Lists.{Each, every}
 
 module _ {A : Type 0} where
-  -- P holds of every member
-  abbrev pub Each : (A → Type 0) → List A → Type 0
-  Each P [] = Unit {0}
-  Each P (x ∷ xs) = P x × Each P xs
-
   pub each-map : (P Q : A → Type 0) → ((x : A) → P x → Q x) → (xs : List A) → Each P xs → Each Q xs
   each-map P Q f [] p = tt
   each-map P Q f (x ∷ xs) p = (f x (p .0), each-map P Q f xs (p .1))

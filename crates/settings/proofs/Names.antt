@@ -13,7 +13,7 @@ use Rattle.text.specs.Text.{ascii}
 use Rattle.text.proofs.Tables.{tabled}
 use Rattle.numbers.proofs.Cases.{and-true}
 use Rattle.settings.specs.Mnemonics.{sheet, sheetAt, others, known, knownAt, name, same, found, recognised}
-use Rattle.settings.specs.Limits.{every}
+use Rattle.settings.specs.Lists.{every}
 use Rattle.settings.specs.declared.model.Model.{Model}
 use Rattle.settings.specs.declared.mnemonic.Setting.the-variants.{Uni}
 use Rattle.settings.specs.declared.mnemonic.Mnemonic.{Mnemonic}

@@ -16,7 +16,8 @@ use Rattle.settings.specs.Models.{defaults}
 use Rattle.settings.specs.Mnemonics.{sheet, sheetAt, others, known}
 use Rattle.settings.specs.Kinds.{whole, factor, perChannel, kinds, storedKinds, storedTable}
 use Rattle.settings.specs.Rows.{plain, row, listed, count, cells}
-use Rattle.settings.specs.Limits.{placeWithin, rowWithin, every, within}
+use Rattle.settings.specs.Lists.{every, Each}
+use Rattle.settings.specs.Limits.{placeWithin, rowWithin, within, Shaped}
 use Rattle.settings.specs.declared.model.Model.{Model}
 use Rattle.settings.specs.declared.model.Model.the-variants.{Tpg361, Tpg362}
 use Rattle.settings.specs.declared.mnemonic.Setting.{Setting}
@@ -27,8 +28,8 @@ use Rattle.settings.specs.declared.kinds.Kind.{Kind}
 use Rattle.settings.specs.declared.kinds.Kind.the-variants.{Threshold as Level}
 use Rattle.settings.specs.declared.rows.Row.{Row}
 use Rattle.settings.specs.declared.Settings.{Settings}
-use Rattle.settings.proofs.Lists.{Each, each-map, each-both, each-all, each-take, each-drop, each-at, every-each, each-every}
-use Rattle.settings.proofs.Storing.{Holding, Shaped, rows-decide}
+use Rattle.settings.proofs.Lists.{each-map, each-both, each-all, each-take, each-drop, each-at, every-each, each-every}
+use Rattle.settings.proofs.Storing.{Holding, rows-decide}
 use Rattle.settings.proofs.Storing.Holding.{uni, fil, cal, dcd, sp, kept}
 use Rattle.settings.proofs.Places.{cell, same-cell, rows-same, row-places}
 

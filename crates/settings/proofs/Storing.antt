@@ -9,6 +9,7 @@ use lib.ListN.{length, getD, set, take, drop, length-set}
 use lib.Dec.{ltb}
 use lib.Seq.{getD-set-same, getD-set-other, ext-getD}
 use Rattle.numbers.specs.declared.threshold.Threshold.{Threshold}
+use Rattle.settings.specs.Limits.{Shaped}
 use Rattle.settings.specs.Rows.{plain, pairRow, noSwitching, cellsOf, row, listed, count, number, switchingOf, withRow, withFactors, mixed, stored}
 use Rattle.settings.specs.declared.model.Model.{Model}
 use Rattle.settings.specs.declared.mnemonic.Setting.{Setting}
@@ -26,14 +27,6 @@ pub data Holding : Setting → Type 0 where
   dcd : Holding Dcd
   sp : (k : ℕ) → k < 4 → Holding (Sp k)
   kept : (k : ℕ) → k < 9 → Holding (Stored k)
-
--- the arrays have their lengths, as their types say
-pub record Shaped (s : Settings) : Type 0 where
-  pub filters : length (s .filters) ≡ 2
-  pub factors : length (s .factors) ≡ 2
-  pub resolutions : length (s .resolutions) ≡ 2
-  pub switching : length (s .switching) ≡ 4
-  pub stored : length (s .stored) ≡ 9
 
 -- ---- rows
 

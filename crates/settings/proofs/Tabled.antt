@@ -12,7 +12,8 @@ use Rattle.settings.specs.Models.{defaults}
 use Rattle.settings.specs.Mnemonics.{sheetAt}
 use Rattle.settings.specs.Kinds.{whole, kinds, storedTable, storedKinds}
 use Rattle.settings.specs.Rows.{row}
-use Rattle.settings.specs.Limits.{rowFits, rowWithin, every}
+use Rattle.settings.specs.Lists.{every}
+use Rattle.settings.specs.Limits.{rowFits, rowWithin}
 use Rattle.settings.specs.declared.model.Model.{Model}
 use Rattle.settings.specs.declared.mnemonic.Setting.{Setting}
 use Rattle.settings.specs.declared.mnemonic.Mnemonic.the-variants.{Setting as Of}

@@ -1,3 +1,4 @@
+pub mod Lists
 pub mod Models
 pub mod Mnemonics
 pub mod Kinds

@@ -1,12 +1,14 @@
 -- The limits of settings on a model (01, "Readings, switching, streaming": "every value above in range, on a 361
 -- channel-2 cells at their defaults and no channel-2 choice").
-use mathlib.Core.List.{List, [], _∷_}
-use mathlib.Core.Bool.{Bool, true, cond, _&&_}
+use mathlib.Core.Path.{_≡_}
+use mathlib.Core.List.{List}
+use mathlib.Core.Bool.{Bool, cond, _&&_}
 use lib.ListN.{length, getD}
 use lib.Dec.{leb, ltb, eqb}
 use lib.IntN.{pos}
 use Rattle.numbers.specs.Numbers.{between, withinStops}
 use Rattle.numbers.specs.declared.threshold.Threshold.{Threshold}
+use Rattle.settings.specs.Lists.{every}
 use Rattle.settings.specs.Models.{defaults}
 use Rattle.settings.specs.Mnemonics.{sheet}
 use Rattle.settings.specs.Kinds.{kinds}
@@ -49,11 +51,14 @@ rowFits ks r d =
 abbrev pub rowWithin : Model → Settings → Setting → Bool
 rowWithin model s x = rowFits (kinds model (Of x)) (row s x) (row (defaults model) x)
 
--- a test holds of every member of a list
-unfoldable pub every : {A : Type 0} → (A → Bool) → List A → Bool
-every p [] = true
-every p (x ∷ xs) = p x && every p xs
-
 -- all of the sheet
 unfoldable pub within : Model → Settings → Bool
 within model s = every (rowWithin model s) (sheet model)
+
+-- the arrays have their lengths, as the type of the settings says; what a list of a definition cannot say by itself
+pub record Shaped (s : Settings) : Type 0 where
+  pub filters : length (s .filters) ≡ 2
+  pub factors : length (s .factors) ≡ 2
+  pub resolutions : length (s .resolutions) ≡ 2
+  pub switching : length (s .switching) ≡ 4
+  pub stored : length (s .stored) ≡ 9

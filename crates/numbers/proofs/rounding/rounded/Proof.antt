@@ -6,8 +6,7 @@ use lib.IntN.{ℤ, pos, natAbs, _+ℤ_}
 use mir.Syntax.{w32}
 use mir.Val.{SFits}
 use mir.Facts.{toZ-ofZ}
-use Rattle.numbers.specs.Rounding.{climb}
-use Rattle.numbers.specs.Rounding.{nearest, five, power, rounded}
+use Rattle.numbers.specs.Rounding.{climb, nearest, five, power, rounded}
 use Rattle.numbers.specs.declared.rounding.Climbed.{Climbed}
 use Rattle.numbers.proofs.Nearest.{placed, power-near}
 use Rattle.numbers.proofs.Signed.{small, abs-add}

@@ -3,7 +3,8 @@ use Prim.Native.Nat.{_≤_, _-_}
 use mathlib.Core.Path.{_≡_, refl, sym, _∙_}
 use lib.ListN.{drop}
 use Rattle.settings.specs.Mnemonics.{sheet}
-use Rattle.settings.specs.Limits.{every, rowWithin, within}
+use Rattle.settings.specs.Lists.{every}
+use Rattle.settings.specs.Limits.{rowWithin, within}
 use Rattle.settings.specs.declared.mnemonic.Setting.the-variants.{Uni}
 use Rattle.settings.proofs.Tabled.{every-here, every-not, every-end, line-tested}
 use borrow.Author.Needs.{needs}

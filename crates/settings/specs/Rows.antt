@@ -53,6 +53,7 @@ listed r = r .first ∷ r .second ∷ r .third ∷ []
 abbrev pub count : Model → Setting → ℕ
 count model x = length (kinds model (Of x))
 
+-- and those are they
 abbrev pub cells : Model → Settings → Setting → List Threshold
 cells model s x = take (count model x) (listed (row s x))
 

@@ -110,9 +110,6 @@ module _ (model : Model) (a b : Settings) where
         (drop n (sheet model)) (each-drop Holding n (sheet model) (sheet-holding model)) (distinct-cut n (sheet model) (sheet-distinct model))
 
     -- and it stays within its limits
-    pub cut-shaped : (n : ℕ) → Shaped (afterLines n)
-    cut-shaped n = after-shaped model (map (lineOf model a) (take n (sheet model))) b sb
-
     pub cut-within : (n : ℕ) → within model (afterLines n) ≡ true
     cut-within n = after-within model (map (lineOf model a) (take n (sheet model))) b sb wb
 

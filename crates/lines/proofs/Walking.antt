@@ -1,17 +1,18 @@
 -- The fields of a line one after the other, as the code walks them, are those of the line split at its commas.
 use Prim.Native.Nat.{ℕ, suc, _+_, _-_, _≤_, _<_}
 use Prim.Native.Char.{code}
-use mathlib.Core.Path.{_≡_, refl, sym, ap, _∙_}
+use mathlib.Core.Path.{_≡_, refl, sym, ap, _∙_, subst}
+use mathlib.Core.Logic.{⊎-elim}
 use mathlib.Core.List.{List, [], _∷_}
 use mathlib.Core.Bool.{Bool, true, false, cond}
 use native.Mathlib.Omega.{arith}
 use native.Mathlib.Numerals.{add-one}
-use borrow.Author.Tests.{eq-eqb, ne-eqb, eqb-true, eqb-false, lt-ltb, le-ltb}
+use borrow.Author.Tests.{eq-eqb, ne-eqb, lt-ltb, le-ltb}
 use lib.ListN.{length, getD, take, drop, drop-of-length-le, length-drop}
 use lib.Seq.{drop-cons, drop-drop}
 use lib.Dec.{eqb, ltb}
 use Rattle.numerals.specs.Digits.{part}
-use Rattle.numbers.proofs.Cases.{cond-cases}
+use Rattle.numbers.proofs.Cases.{below, cond-cases}
 use Rattle.numbers.specs.declared.threshold.Threshold.{Threshold}
 use Rattle.settings.specs.Models.{channels}
 use Rattle.settings.specs.Mnemonics.{recognised, channelOf}
@@ -73,29 +74,22 @@ word-is (b ∷ s) =
 word-short : (s : List ℕ) → length (word s) ≤ length s
 word-short s = word-is s .0
 
--- more than one field: there is a comma; one only: there is none
+-- so the fields are one of the two
+either-fields : (P : List (List ℕ) → Type 0) (s : List ℕ) → P (word s ∷ []) → P (word s ∷ fields (behind s)) → P (fields s)
+either-fields P s one more =
+    ⊎-elim (λ (h : length (word s) < length s). subst P (sym (split s .1 h)) more)
+    (λ (h : length s ≤ length (word s)). subst P (sym (split s .0 (omega (arith, word-short s)))) one)
+    (below (length (word s)) (length s))
+
+-- more than one field: there is a comma; one only: there is none; either way the word is the first
 next-of : (s : List ℕ) → 2 ≤ length (fields s) → fields s ≡ word s ∷ fields (behind s)
-next-of s h = by (eqb (length (word s)) (length s)) refl
-  where
-    by : (t : Bool) → eqb (length (word s)) (length s) ≡ t → fields s ≡ word s ∷ fields (behind s)
-    by true e = absurd (omega (arith, ap length (split s .0 (eqb-true (length (word s)) (length s) e))))
-    by false e = split s .1 (omega (arith, word-short s, eqb-false (length (word s)) (length s) e))
+next-of s = either-fields (λ fs. 2 ≤ length fs → fs ≡ word s ∷ fields (behind s)) s (λ h. absurd (omega arith)) (λ h. refl)
 
 last-of : (s : List ℕ) → length (fields s) ≡ 1 → fields s ≡ word s ∷ []
-last-of s h = by (eqb (length (word s)) (length s)) refl
-  where
-    by : (t : Bool) → eqb (length (word s)) (length s) ≡ t → fields s ≡ word s ∷ []
-    by true e = split s .0 (eqb-true (length (word s)) (length s) e)
-    by false e =
-        absurd (omega (arith, some-fields (behind s), ap length (split s .1 (omega (arith, word-short s, eqb-false (length (word s)) (length s) e)))))
+last-of s = either-fields (λ fs. length fs ≡ 1 → fs ≡ word s ∷ []) s (λ h. refl) (λ h. absurd (omega (arith, some-fields (behind s))))
 
--- either way the word is the first field
 first-field : (s : List ℕ) → fields s ≡ word s ∷ drop 1 (fields s)
-first-field s = by (eqb (length (word s)) (length s)) refl
-  where
-    by : (t : Bool) → eqb (length (word s)) (length s) ≡ t → fields s ≡ word s ∷ drop 1 (fields s)
-    by true e = rw (split s .0 (eqb-true (length (word s)) (length s) e))
-    by false e = rw (split s .1 (omega (arith, word-short s, eqb-false (length (word s)) (length s) e)))
+first-field s = either-fields (λ fs. fs ≡ word s ∷ drop 1 fs) s refl refl
 
 -- ---- one byte more
 

@@ -30,11 +30,6 @@ module _ {A : Type 0} where
   each-drop P (suc n) [] p = tt
   each-drop P (suc n) (x ∷ xs) p = each-drop P n xs (p .1)
 
-  pub each-cut : (P : A → Type 0) (n : ℕ) (xs : List A) → Each P (take n xs) → Each P (drop n xs) → Each P xs
-  each-cut P zero xs p q = q
-  each-cut P (suc n) [] p q = tt
-  each-cut P (suc n) (x ∷ xs) p q = (p .0, each-cut P n xs (p .1) q)
-
   -- what holds of what stands for a missing member too holds at every place
   pub each-at : (P : A → Type 0) (xs : List A) (d : A) → P d → Each P xs → (k : ℕ) → P (getD xs k d)
   each-at P [] d p e k = p

@@ -1,16 +1,16 @@
 -- A row within limits, place by place.
 use Prim.Native.Nat.{ℕ, zero, suc, _<_}
-use mathlib.Core.Path.{_≡_, sym, ap, subst}
+use mathlib.Core.Path.{_≡_, ap}
 use mathlib.Core.List.{List}
 use mathlib.Core.Bool.{Bool, true, _&&_}
 use native.Mathlib.Omega.{arith}
 use borrow.Author.Tests.{eqb-true}
 use lib.ListN.{length, getD}
-use lib.Dec.{T, ltb, eqb}
+use lib.Dec.{ltb, eqb}
 use lib.IntN.{ℤ, pos, negsuc}
 use Rattle.numbers.specs.Numbers.{between}
 use Rattle.numbers.specs.declared.threshold.Threshold.{Threshold}
-use Rattle.numbers.proofs.Cases.{and-true, ranged}
+use Rattle.numbers.proofs.Cases.{and-true, ranged, never}
 use Rattle.settings.specs.Rows.{plain, listed}
 use Rattle.settings.specs.Limits.{inside, sameCell, placeWithin, rowFits}
 use Rattle.settings.specs.declared.kinds.Limits.{Limits}
@@ -23,8 +23,8 @@ use Rattle.settings.specs.declared.rows.Row.{Row}
 -- an exponent from e to e
 exponent-is : (e x : ℤ) → between e e x ≡ true → x ≡ e
 exponent-is (pos a) (pos b) h = let l = ranged a a b h in ap pos (omega arith)
-exponent-is (pos a) (negsuc b) h = absurd (subst T (sym h) tt)
-exponent-is (negsuc a) (pos b) h = absurd (subst T (sym h) tt)
+exponent-is (pos a) (negsuc b) h = never (cc)
+exponent-is (negsuc a) (pos b) h = never (cc)
 exponent-is (negsuc a) (negsuc b) h = let l = ranged b b a h in ap negsuc (omega arith)
 
 pub same-cell : (c d : Threshold) → sameCell c d ≡ true → c ≡ d

@@ -5,7 +5,7 @@ use mathlib.Core.List.{List}
 use mathlib.Core.Bool.{Bool, true, false, cond}
 use mathlib.Core.Logic.{_≢_}
 use native.Mathlib.Omega.{arith}
-use lib.ListN.{length, getD, set, take, drop, length-set}
+use lib.ListN.{length, getD, set, take, length-set}
 use lib.Dec.{ltb}
 use lib.Seq.{getD-set-same, getD-set-other, ext-getD}
 use Rattle.numbers.specs.declared.threshold.Threshold.{Threshold}
@@ -100,9 +100,6 @@ module _ (n : ℕ) (r q : Row) where
 
   pub mixed-front : n ≤ 3 → take n (listed (mixed n r q)) ≡ take n (listed r)
   mixed-front = upto-three (λ m. take m (listed (mixed m r q)) ≡ take m (listed r)) refl refl refl refl n
-
-  pub mixed-rest : n ≤ 3 → drop n (listed (mixed n r q)) ≡ drop n (listed q)
-  mixed-rest = upto-three (λ m. drop m (listed (mixed m r q)) ≡ drop m (listed q)) refl refl refl refl n
 
 -- ---- storing
 

@@ -28,9 +28,6 @@ leasts = 0 ∷ 0 ∷ 0 ∷ 1 ∷ 0 ∷ 0 ∷ 0 ∷ 0 ∷ []
 abbrev mosts : List ℕ
 mosts = 1 ∷ 1 ∷ 2 ∷ 24 ∷ 1 ∷ 2 ∷ 1 ∷ 6 ∷ []
 
-abbrev behindEra : List Kind
-behindEra = whole 0 1 ∷ whole 0 1 ∷ whole 0 2 ∷ whole 1 24 ∷ whole 0 1 ∷ whole 0 2 ∷ whole 0 1 ∷ whole 0 6 ∷ []
-
 pub stored-kind : (model : Model) (k : ℕ) (d : Kind) → k < 9 → storedKinds model k ≡ getD (storedTable model) k d ∷ []
 unfolding storedKinds
 stored-kind model k d h = ap (take 1) (drop-cons (storedTable model) k d h)
@@ -41,7 +38,7 @@ stored-entry model zero h n = absurd (n refl)
 stored-entry model (suc j) h n =
     let q : j ≡ suc j - 1 = omega arith in
     stored-kind model (suc j) Threshold h
-    ∙ ap (λ (k : Kind). k ∷ []) (sym (tabled (λ j. whole (getD leasts j 0) (getD mosts j 0)) 8 behindEra refl j Threshold (omega arith)))
+    ∙ ap (λ (k : Kind). k ∷ []) (sym (tabled (λ j. whole (getD leasts j 0) (getD mosts j 0)) 8 (drop 1 (storedTable model)) refl j Threshold (omega arith)))
     ∙ ap (λ (i : ℕ). whole (getD leasts i 0) (getD mosts i 0) ∷ []) q
 
 pub stored-past : (model : Model) (k : ℕ) → 9 ≤ k → storedKinds model k ≡ []

@@ -2,8 +2,8 @@
 use Prim.Native.Nat.{_≤_, _-_}
 use mathlib.Core.Path.{_≡_, refl, sym, _∙_}
 use lib.ListN.{drop}
-use Rattle.settings.specs.Mnemonics.{sheet}
 use Rattle.settings.specs.Lists.{every}
+use Rattle.settings.specs.Mnemonics.{sheet, sheetAt}
 use Rattle.settings.specs.Limits.{rowWithin, within}
 use Rattle.settings.specs.declared.mnemonic.Setting.the-variants.{Uni}
 use Rattle.settings.proofs.Tabled.{every-here, every-not, every-end, line-tested}
@@ -20,6 +20,15 @@ abbrev μ-loop : tie.MeasureT-loop
 
 defaults-requires : tie.Need-defaults-requires Inv-loop μ-loop
 defaults-requires c κs = search needs
+
+tested : (c : tie.After-row-is-within Inv-loop μ-loop)
+    → rowWithin (c .before .before .before .before .before .args .model) (c .before .before .before .before .before .args .self)
+    (sheetAt (c .before .before .before .before .before .args .model) (c .before .before .before .loop .i)) ≡ c .row-is-within .result
+tested c =
+    let x = c .before .sheet-at in
+    let d = c .before .before .before .before .defaults in
+    let a = c .before .before .before .before .before .args in
+    line-tested (a .model) (a .self) (d .result) (x .result) (c .before .before .before .loop .i) (c .row-is-within .result) (c .row-is-within .ensures) (d .ensures) (x .ensures)
 
 loop-holds : tie.Need-loop-holds Inv-loop μ-loop
 unfolding within
@@ -39,23 +48,15 @@ loop-less c = search needs
 
 loop-again : tie.Need-loop-again Inv-loop μ-loop
 loop-again c =
-    let r = c .before .row-is-within in
-    let x = c .before .before .sheet-at in
     let l = c .before .before .before .before .loop in
-    let d = c .before .before .before .before .before in
-    let a = d .before .args in
-    let t = line-tested (a .model) (a .self) (d .defaults .result) (x .result) (l .i) (r .result) (r .ensures) (d .defaults .ensures) (x .ensures) in
-    (omega arith, sym (every-here (rowWithin (a .model) (a .self)) Uni (sheet (a .model)) (l .i) (c .before .before .before .loop-test .taken) (t ∙ c .if1 .taken)) ∙ l .inv .1)
+    let a = c .before .before .before .before .before .before .args in
+    (omega arith, sym (every-here (rowWithin (a .model) (a .self)) Uni (sheet (a .model)) (l .i) (c .before .before .before .loop-test .taken) (tested (c .before) ∙ c .if1 .taken)) ∙ l .inv .1)
 
 returns : tie.Need-returns Inv-loop μ-loop
 returns c =
-    let r = c .before .row-is-within in
-    let x = c .before .before .sheet-at in
     let l = c .before .before .before .before .loop in
-    let d = c .before .before .before .before .before in
-    let a = d .before .args in
-    let t = line-tested (a .model) (a .self) (d .defaults .result) (x .result) (l .i) (r .result) (r .ensures) (d .defaults .ensures) (x .ensures) in
-    sym (every-not (rowWithin (a .model) (a .self)) Uni (sheet (a .model)) (l .i) (c .before .before .before .loop-test .taken) (t ∙ c .if1 .left)) ∙ l .inv .1
+    let a = c .before .before .before .before .before .before .args in
+    sym (every-not (rowWithin (a .model) (a .self)) Uni (sheet (a .model)) (l .i) (c .before .before .before .loop-test .taken) (tested (c .before) ∙ c .if1 .left)) ∙ l .inv .1
 
 returns-2 : tie.Need-returns-2 Inv-loop μ-loop
 returns-2 c =

@@ -4,3 +4,4 @@ pub mod Judging
 pub mod Replies
 pub mod Sheets
 pub mod Walk
+pub mod Words

@@ -3,3 +3,4 @@ pub mod fields;
 pub mod judging;
 pub mod replies;
 pub mod verdict;
+pub mod word;

@@ -1,6 +1,7 @@
 pub mod Lists
 pub mod Tabled
 pub mod Names
+pub mod Answering
 pub mod Places
 pub mod Storing
 pub mod Sheets

@@ -4,8 +4,9 @@ use Prim.Native.String.{String}
 use mathlib.Core.List.{List, [], _∷_, _++_, map}
 use mathlib.Core.Bool.{Bool, true, false, cond, _&&_}
 use lib.ListN.{getD, take, drop}
-use lib.Dec.{eqb}
+use lib.Dec.{eqb, ltb}
 use Rattle.text.specs.Text.{ascii}
+use Rattle.settings.specs.Models.{channels}
 use Rattle.settings.specs.declared.model.Model.{Model}
 use Rattle.settings.specs.declared.mnemonic.Setting.{Setting}
 use Rattle.settings.specs.declared.mnemonic.Setting.the-variants.{Uni, Fil, Cal, Dcd, Sp, Stored}
@@ -104,3 +105,36 @@ channelOf (Cf k) = k
 channelOf (Asked q) = queryChannel q
 channelOf Com = 0
 channelOf Sav = 0
+
+-- the word names a mnemonic
+abbrev pub isKnown : Named → Bool
+isKnown (Known m) = true
+isKnown Unknown = false
+
+-- COM and SAV have no reply: "after COM and SAV the selection is none"
+abbrev pub hasReply : Mnemonic → Bool
+hasReply (Of x) = true
+hasReply (Cf k) = true
+hasReply (Asked q) = true
+hasReply Com = false
+hasReply Sav = false
+
+-- "a selection that the model can answer": it is known, about a channel that the model has, and has a reply
+unfoldable pub answers : Model → Mnemonic → Bool
+answers model m = isKnown (recognised model (name m)) && (ltb (channelOf m) (channels model) && hasReply m)
+
+-- ERR, whose reply is the error word
+abbrev pub queryIsErr : Query → Bool
+queryIsErr Sps = false
+queryIsErr (Pr k) = false
+queryIsErr Prx = false
+queryIsErr Tid = false
+queryIsErr Ayt = false
+queryIsErr Err = true
+
+abbrev pub isErr : Mnemonic → Bool
+isErr (Of x) = false
+isErr (Cf k) = false
+isErr (Asked q) = queryIsErr q
+isErr Com = false
+isErr Sav = false

@@ -2,7 +2,8 @@
 ghost use mathlib.Core.Path.{_≡_};
 ghost use mathlib.Core.List.{[], _∷_};
 ghost use Prim.Native.Nat.{_<_};
-ghost use Rattle.settings.specs.Mnemonics.{sheetAt, knownAt, name, same, recognised, channelOf};
+ghost use Rattle.settings.specs.Mnemonics.{sheetAt, knownAt, name, same, recognised, channelOf, isKnown, answers, isErr};
+ghost use Rattle.settings.specs.declared.mnemonic.Mnemonic.the-variants.{Setting as Of};
 use crate::model::Model;
 
 // Those of the sheet, each of which holds settings.
@@ -128,9 +129,56 @@ impl Model {
         }
         Named::Unknown
     }
+
+    // Whether a setting is one that has a name.
+    fn has(self, x: Setting) -> bool
+        ensures { λ r. ⌜ r ≡ isKnown (recognised self (name (Of x))) ⌝ }
+    {
+        match x {
+            Setting::Uni => true,
+            Setting::Fil => true,
+            Setting::Cal => true,
+            Setting::Dcd => true,
+            Setting::Sp(k) => k < 4,
+            Setting::Stored(k) => k < 9,
+        }
+    }
+
+    // Whether a box of the model can answer it when it is selected.
+    pub fn answers(self, m: Mnemonic) -> bool
+        ensures { λ r. ⌜ r ≡ answers self m ⌝ }
+    {
+        match m {
+            Mnemonic::Setting(x) => self.has(x),
+            Mnemonic::Cf(k) => (k as usize) < self.channels(),
+            Mnemonic::Query(_) => (m.channel() as usize) < self.channels(),
+            Mnemonic::Com => false,
+            Mnemonic::Sav => false,
+        }
+    }
 }
 
 impl Mnemonic {
+    // Whether its reply is the error word.
+    pub fn is_err(self) -> bool
+        ensures { λ r. ⌜ r ≡ isErr self ⌝ }
+    {
+        match self {
+            Mnemonic::Setting(_) => false,
+            Mnemonic::Cf(_) => false,
+            Mnemonic::Query(q) => match q {
+                Query::Sps => false,
+                Query::Pr(_) => false,
+                Query::Prx => false,
+                Query::Tid => false,
+                Query::Ayt => false,
+                Query::Err => true,
+            },
+            Mnemonic::Com => false,
+            Mnemonic::Sav => false,
+        }
+    }
+
     // The channel that a mnemonic is about, from 0 on; 0 where it is about none.
     pub fn channel(self) -> u8
         ensures { λ r. ⌜ r ≡ channelOf self ⌝ }

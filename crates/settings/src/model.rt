@@ -1,7 +1,7 @@
 // The models, and the rules that belong to one.
 ghost use mathlib.Core.Path.{_≡_};
 ghost use Rattle.text.specs.Text.{puts};
-ghost use Rattle.settings.specs.Models.{channels, names, powerOnMode, startsOn, defaults};
+ghost use Rattle.settings.specs.Models.{modelOf, channels, names, powerOnMode, startsOn, follows, agrees, defaults};
 ghost use Rattle.settings.specs.Mnemonics.{sheet};
 use crate::Settings;
 use crate::Switching;
@@ -11,6 +11,12 @@ use text::Text;
 pub enum Model {
     Tpg361,
     Tpg362,
+}
+
+// The model of a number.
+pub enum Numbered {
+    One(Model),
+    NoModel,
 }
 
 const NAMES_361: [u8; 15] = *b"TPG361,PTG28040";
@@ -23,6 +29,21 @@ impl Model {
 
     // the assignment of a switching function that is always on
     pub const ALWAYS_ON: u32 = 1;
+
+    // the assignment that follows the first channel
+    const FIRST_CHANNEL: u32 = 2;
+
+    pub fn numbered(n: u32) -> Numbered
+        ensures { λ r. ⌜ r ≡ modelOf n ⌝ }
+    {
+        if n == 361 {
+            return Numbered::One(Model::Tpg361);
+        }
+        if n == 362 {
+            return Numbered::One(Model::Tpg362);
+        }
+        Numbered::NoModel
+    }
 
     pub fn channels(self) -> usize
         ensures { λ r. ⌜ r ≡ channels self ⌝ }
@@ -55,6 +76,20 @@ impl Model {
         ensures { λ r. ⌜ r ≡ startsOn self assignment ⌝ }
     {
         assignment == Model::ALWAYS_ON
+    }
+
+    // Whether a switching function of this assignment follows the readings of a channel, from 0 on.
+    pub fn follows(self, assignment: u32, channel: u8) -> bool
+        ensures { λ r. ⌜ r ≡ follows self assignment channel ⌝ }
+    {
+        assignment == (channel as u32) + Model::FIRST_CHANNEL
+    }
+
+    // Whether a switching function of this assignment may be found on, or off.
+    pub fn agrees(self, assignment: u32, on: bool) -> bool
+        ensures { λ r. ⌜ r ≡ agrees self assignment on ⌝ }
+    {
+        (Model::FIRST_CHANNEL <= assignment) | (on == self.starts_on(assignment))
     }
 
     // What a fresh box is set to.

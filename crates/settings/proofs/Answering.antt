@@ -1,0 +1,103 @@
+-- Which selections a model can answer.
+use Prim.Native.Nat.{ℕ, _≤_, _<_}
+use mathlib.Core.Path.{_≡_, refl, sym}
+use mathlib.Core.List.{List, [], _∷_, _++_}
+use mathlib.Core.Bool.{Bool, true, false, _&&_}
+use mathlib.Core.Logic.{⊎-elim}
+use native.Mathlib.Omega.{arith}
+use borrow.Author.Tests.{lt-ltb, le-ltb}
+use lib.ListN.{length, drop, replicate, drop-of-length-le, List·getD-eq-default}
+use lib.Dec.{ltb}
+use Rattle.text.specs.Text.{ascii}
+use Rattle.text.proofs.Tables.{listed, everywhere}
+use Rattle.numbers.proofs.Cases.{below, cond-cases, never}
+use Rattle.settings.specs.Models.{channels}
+use Rattle.settings.specs.Lists.{every, Each}
+use Rattle.settings.specs.Mnemonics.{storedNames, known, name, same, found, recognised, channelOf, isKnown, hasReply, answers}
+use Rattle.settings.specs.declared.model.Model.{Model}
+use Rattle.settings.specs.declared.model.Model.the-variants.{Tpg361, Tpg362}
+use Rattle.settings.specs.declared.mnemonic.Setting.{Setting}
+use Rattle.settings.specs.declared.mnemonic.Setting.the-variants.{Uni, Fil, Cal, Dcd, Sp, Stored}
+use Rattle.settings.specs.declared.mnemonic.Query.{Query}
+use Rattle.settings.specs.declared.mnemonic.Query.the-variants.{Sps, Pr, Prx, Tid, Ayt, Err}
+use Rattle.settings.specs.declared.mnemonic.Mnemonic.{Mnemonic}
+use Rattle.settings.specs.declared.mnemonic.Mnemonic.the-variants.{Setting as Of, Cf, Query as Asked, Com, Sav}
+use Rattle.settings.proofs.Lists.{each-map, every-each}
+use Rattle.settings.proofs.Names.{not-three}
+
+-- ---- settings by their numbers
+
+-- a family of n, whose names past the last have another length
+family : (model : Model) (names : ℕ → List ℕ) (n : ℕ) → listed (λ (k : ℕ). isKnown (recognised model (names k))) n 0 ≡ replicate n true
+    → ((k : ℕ) → n ≤ k → length (names k) ≡ 3 → ⊥) → (k : ℕ) → ltb k n ≡ isKnown (recognised model (names k))
+family model names n t past k =
+    ⊎-elim (λ (l : k < n). rw (lt-ltb k n l) (sym (everywhere (λ (j : ℕ). isKnown (recognised model (names j))) n t k l)))
+    (λ (g : n ≤ k). rw (le-ltb k n g, not-three model (names k) (past k g))) (below k n)
+
+pub sp-known : (model : Model) (k : ℕ) → ltb k 4 ≡ isKnown (recognised model (name (Of (Sp k))))
+unfolding recognised known found same
+sp-known model = family model (λ (k : ℕ). name (Of (Sp k))) 4 refl (λ k g e. absurd (let d = drop-of-length-le (ascii "1234") {i = k} g in omega (arith, rw d at e)))
+
+pub stored-known : (model : Model) (k : ℕ) → ltb k 9 ≡ isKnown (recognised model (name (Of (Stored k))))
+unfolding recognised known found same
+stored-known model = family model (λ (k : ℕ). name (Of (Stored k))) 9 refl (λ k g e. absurd (let d = List·getD-eq-default storedNames [] g in omega (arith, rw d at e)))
+
+-- those without a number
+pub plain-known : (model : Model) → Each (λ (x : Setting). true ≡ isKnown (recognised model (name (Of x)))) (Uni ∷ Fil ∷ Cal ∷ Dcd ∷ [])
+unfolding recognised known found same
+plain-known model = (refl, (refl, (refl, (refl, tt))))
+
+-- ---- what is there on the model
+
+and-end : (t : Bool) → t && true ≡ t
+and-end true = refl
+and-end false = refl
+
+and-no : (t : Bool) → t && false ≡ false
+and-no true = refl
+and-no false = refl
+
+channelled : (model : Model) (f : ℕ → Mnemonic) → listed (λ (k : ℕ). isKnown (recognised model (name (f k)))) 2 0 ≡ replicate 2 true
+    → (k : ℕ) → ltb k (channels model) ≡ isKnown (recognised model (name (f k))) && (ltb k (channels model) && true)
+channelled model f t k =
+    ⊎-elim (λ (l : k < channels model). rw (lt-ltb k (channels model) l, everywhere (λ (j : ℕ). isKnown (recognised model (name (f j)))) 2 t k (two model l)))
+    (λ (g : channels model ≤ k). rw (le-ltb k (channels model) g) (sym (and-no (isKnown (recognised model (name (f k))))))) (below k (channels model))
+  where
+    two : (model : Model) → k < channels model → k < 2
+    two Tpg361 l = omega arith
+    two Tpg362 l = l
+
+pub factor-answers : (model : Model) (k : ℕ) → ltb k (channels model) ≡ answers model (Cf k)
+unfolding recognised known found same answers
+factor-answers model = channelled model Cf refl
+
+pub query-answers : (model : Model) (q : Query) → ltb (channelOf (Asked q)) (channels model) ≡ answers model (Asked q)
+unfolding recognised known found same answers
+query-answers model (Pr k) = channelled model (λ (k : ℕ). Asked (Pr k)) refl k
+query-answers model Sps = channelled model (λ (k : ℕ). Asked Sps) refl 0
+query-answers model Prx = channelled model (λ (k : ℕ). Asked Prx) refl 0
+query-answers model Tid = channelled model (λ (k : ℕ). Asked Tid) refl 0
+query-answers model Ayt = channelled model (λ (k : ℕ). Asked Ayt) refl 0
+query-answers model Err = channelled model (λ (k : ℕ). Asked Err) refl 0
+
+pub setting-answers : (model : Model) (x : Setting) → isKnown (recognised model (name (Of x))) ≡ answers model (Of x)
+unfolding answers
+setting-answers Tpg361 x = sym (and-end (isKnown (recognised Tpg361 (name (Of x)))))
+setting-answers Tpg362 x = sym (and-end (isKnown (recognised Tpg362 (name (Of x)))))
+
+pub no-answer : (model : Model) (m : Mnemonic) → hasReply m ≡ false → false ≡ answers model m
+unfolding answers
+no-answer model m e = rw (e, and-no (ltb (channelOf m) (channels model))) (sym (and-no (isKnown (recognised model (name m)))))
+
+-- ---- what is known, there and has a reply
+
+known-named : (model : Model) → every (λ (m : Mnemonic). isKnown (recognised model (name m))) (known model) ≡ true
+unfolding known recognised found same every
+known-named model = refl
+
+pub known-answers : (model : Model) → Each (λ (m : Mnemonic). channelOf m < channels model → hasReply m ≡ true → answers model m ≡ true) (known model)
+unfolding answers
+known-answers model =
+    each-map (λ (m : Mnemonic). isKnown (recognised model (name m)) ≡ true) _
+    (λ m k l e. rw (k, lt-ltb (channelOf m) (channels model) l, e)) (known model)
+    (every-each (λ (m : Mnemonic). isKnown (recognised model (name m))) (known model) (known-named model))

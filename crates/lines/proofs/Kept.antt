@@ -79,25 +79,36 @@ read-fits (Whole l) s c e = number-fits l (wholeOf s) c e
 read-fits (Factor l) s c e = number-fits l (factorOf s) c e
 read-fits Level s c e = read-within s c (threshold-held (thresholdOf s) c e)
 
--- ---- a line writes only if all its fields are held
+-- ---- a line is accepted only if all its fields are held
 
 Holds : Field → Type 0
 Holds f = f ≡ Held (cellOf f)
 
-module _ (m : Mnemonic) (r : Row) where
-  formed-out : (rs : List Field) (v : Verdict) → formed rs v ≡ Writes m r → v ≡ Writes m r
+-- a verdict that refuses nothing
+abbrev pub Accepting : Verdict → Type 0
+Accepting u = (x : Fault) → u ≢ Refused x
+
+module _ (u : Verdict) (n : Accepting u) where
+  formed-out : (rs : List Field) (v : Verdict) → formed rs v ≡ u → v ≡ u
   unfolding formed
   formed-out [] v e = e
   formed-out (Held c ∷ rs) v e = formed-out rs v e
   formed-out (Faulty x ∷ rs) v e = formed-out rs v e
-  formed-out (Malformed ∷ rs) v e = never (cc)
+  formed-out (Malformed ∷ rs) v e = absurd (n Syntax (sym e))
 
-  all-hold : (rs : List Field) (v w : Verdict) → formed rs v ≡ Writes m r → valued rs w ≡ Writes m r → Each Holds rs × (w ≡ Writes m r)
+  all-hold : (rs : List Field) (v w : Verdict) → formed rs v ≡ u → valued rs w ≡ u → Each Holds rs × (w ≡ u)
   unfolding formed valued Holds
   all-hold [] v w a b = (tt, b)
   all-hold (Held c ∷ rs) v w a b = let p = all-hold rs v w a b in ((refl, p .0), p .1)
-  all-hold (Faulty x ∷ rs) v w a b = never (cc)
-  all-hold (Malformed ∷ rs) v w a b = never (cc)
+  all-hold (Faulty x ∷ rs) v w a b = absurd (n x (sym b))
+  all-hold (Malformed ∷ rs) v w a b = absurd (n Syntax (sym a))
+
+  fields-hold : (m : Mnemonic) (rs : List Field) → judgedFields m rs ≡ u → Each Holds rs × (Writes m (rowOf (map cellOf rs)) ≡ u)
+  fields-hold m rs e = let v = valued rs (Writes m (rowOf (map cellOf rs))) in all-hold rs v (Writes m (rowOf (map cellOf rs))) e (formed-out rs v e)
+
+  -- so fields that are accepted are written
+  pub fields-write : (m : Mnemonic) (rs : List Field) → judgedFields m rs ≡ u → Writes m (rowOf (map cellOf rs)) ≡ u
+  fields-write m rs e = fields-hold m rs e .1
 
 -- "An empty field is a fault of form. It never means a default.", of whatever kind
 pub empty-malformed : (k : Kind) → read k [] ≡ Malformed
@@ -153,12 +164,43 @@ row-fitting ks cs f = places-row ks (rowOf cs) (pairRow 0 0) (λ i h. rw (row-ce
 
 -- ---- what a line needs to be accepted
 
-record Admitted (model : Model) (fs : List (List ℕ)) (m : Mnemonic) (r : Row) : Type 0 where
-  word : List ℕ
-  known : recognised model word ≡ Known m
-  there : channelOf m < channels model
-  fitting : Fitting (kinds model m) r
-  full : Each Filled fs
+-- its word is that of a known mnemonic about a channel that is there, and what it gets there is v
+pub record Reached (model : Model) (fs : List (List ℕ)) (v : Verdict) : Type 0 where
+  pub mnemonic : Mnemonic
+  pub word : List ℕ
+  pub known : recognised model word ≡ Known mnemonic
+  pub there : channelOf mnemonic < channels model
+  pub verdict : withFields model mnemonic fs ≡ v
+
+-- for whatever is not refused
+module _ (model : Model) (v : Verdict) (n : Accepting v) where
+  named-reached : (word : List ℕ) (fs : List (List ℕ)) (c : Named) → recognised model word ≡ c → named model c fs ≡ v → Reached model fs v
+  named-reached word fs Unknown k e = absurd (n Syntax (sym e))
+  named-reached word fs (Known m) k e =
+      cond-cases (λ u. u ≡ v → Reached model fs v) (ltb (channelOf m) (channels model)) (withFields model m fs) (Refused Hardware)
+      (λ t w. record { mnemonic = m; word = word; known = k; there = ltb-true (channelOf m) (channels model) t; verdict = w })
+      (λ _ w. absurd (n Hardware (sym w))) e
+
+  parts-reached : (parts : List (List ℕ)) → parted model parts ≡ v → Reached model (drop 1 parts) v
+  parts-reached [] e = absurd (n Syntax (sym e))
+  parts-reached (word ∷ fs) e = named-reached word fs (recognised model word) refl e
+
+  pub reached : (line : List ℕ) → judged model line ≡ v → Reached model (drop 1 (fields line)) v
+  reached line e = parts-reached (fields line) (sym (judged-parts model line) ∙ e)
+
+-- what is found in a list is a member of it
+found-each : (P : Mnemonic → Type 0) (word : List ℕ) (ms : List Mnemonic) (m : Mnemonic) → found word ms ≡ Known m → Each P ms → P m
+unfolding found
+found-each P word [] m e p = never (cc)
+found-each P word (n ∷ ms) m e p =
+    cond-cases (λ v. v ≡ Known m → P m) (same (name n) word) (Known n) (found word ms)
+    (λ _ q. let s : n ≡ m = cc in subst P s (p .0)) (λ _ q. found-each P word ms m q (p .1)) e
+
+pub reached-known : (P : Mnemonic → Type 0) {model : Model} {fs : List (List ℕ)} {v : Verdict} (g : Reached model fs v) → Each P (known model) → P (g .mnemonic)
+unfolding recognised
+reached-known P {model} g = found-each P (g .word) (known model) (g .mnemonic) (g .known)
+
+-- ---- a line that writes
 
 module _ (model : Model) (m : Mnemonic) (r : Row) where
   -- what the fields of a line that writes are
@@ -179,8 +221,7 @@ module _ (model : Model) (m : Mnemonic) (r : Row) where
   fields-written n fs c e =
       let ks = kinds model n in
       let rs = readings ks fs in
-      let v = valued rs (Writes n (rowOf (map cellOf rs))) in
-      let p = all-hold m r rs v (Writes n (rowOf (map cellOf rs))) e (formed-out m r rs v e) in
+      let p = fields-hold (Writes m r) (λ x q. never (cc)) n rs e in
       let q : Writes n (rowOf (map cellOf rs)) ≡ Writes m r = p .1 in
       let s : rowOf (map cellOf rs) ≡ r = cc in
       record { by = cc; fit = subst (Fitting ks) s (row-fitting ks (map cellOf rs) (fit-readings ks fs c (p .0))); all = filled ks fs c (p .0) }
@@ -194,44 +235,25 @@ module _ (model : Model) (m : Mnemonic) (r : Row) where
       (λ t. fields-written n (f ∷ fs) (eqb-true (length (f ∷ fs)) (length (kinds model n)) t))
       (λ _ e. never (cc))
 
-  named-admitted : (word : List ℕ) (fs : List (List ℕ)) (n : Named) → recognised model word ≡ n → named model n fs ≡ Writes m r → Admitted model fs m r
-  named-admitted word fs Unknown k e = never (cc)
-  named-admitted word fs (Known n) k e =
-      cond-cases (λ v. v ≡ Writes m r → Admitted model fs m r) (ltb (channelOf n) (channels model)) (withFields model n fs) (Refused Hardware)
-      (λ t w. let p = with-written n fs w in
-      subst (λ n. Admitted model fs n r) (p .by)
-      (record { word = word; known = k; there = ltb-true (channelOf n) (channels model) t; fitting = p .fit; full = p .all }))
-      (λ _ w. never (cc)) e
-
-  parts-admitted : (parts : List (List ℕ)) → parted model parts ≡ Writes m r → Admitted model (drop 1 parts) m r
-  parts-admitted [] e = never (cc)
-  parts-admitted (word ∷ fs) e = named-admitted word fs (recognised model word) refl e
-
--- what is found in a list is a member of it
-found-each : (P : Mnemonic → Type 0) (word : List ℕ) (ms : List Mnemonic) (m : Mnemonic) → found word ms ≡ Known m → Each P ms → P m
-unfolding found
-found-each P word [] m e p = never (cc)
-found-each P word (n ∷ ms) m e p =
-    cond-cases (λ v. v ≡ Known m → P m) (same (name n) word) (Known n) (found word ms)
-    (λ _ q. let s : n ≡ m = cc in subst P s (p .0)) (λ _ q. found-each P word ms m q (p .1)) e
-
 module _ (model : Model) (line : List ℕ) (m : Mnemonic) (r : Row) (e : judged model line ≡ Writes m r) where
-  admitted : Admitted model (drop 1 (fields line)) m r
-  admitted = parts-admitted model m r (fields line) (sym (judged-parts model line) ∙ e)
+  at : Reached model (drop 1 (fields line)) (Writes m r)
+  at = reached model (Writes m r) (λ x q. never (cc)) line e
+
+  written : Written model m r (at .mnemonic) (drop 1 (fields line))
+  written = with-written model m r (at .mnemonic) (drop 1 (fields line)) (at .verdict)
 
   pub writes-fitting : Fitting (kinds model m) r
-  writes-fitting = admitted .fitting
+  writes-fitting = subst (λ n. Fitting (kinds model n) r) (written .by) (written .fit)
 
   -- a line that writes has no empty field
   pub writes-filled : Each Filled (drop 1 (fields line))
-  writes-filled = admitted .full
+  writes-filled = written .all
 
   pub writes-there : channelOf m < channels model
-  writes-there = admitted .there
+  writes-there = subst (λ n. channelOf n < channels model) (written .by) (at .there)
 
   pub writes-known : (P : Mnemonic → Type 0) → Each P (known model) → P m
-  unfolding recognised
-  writes-known P = found-each P (admitted .word) (known model) m (admitted .known)
+  writes-known P k = subst P (written .by) (reached-known P at k)
 
 -- ---- the settings
 

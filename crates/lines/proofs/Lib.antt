@@ -3,5 +3,7 @@ pub mod Written
 pub mod ReadBack
 pub mod Accepted
 pub mod Kept
+pub mod Answered
+pub mod Worded
 pub mod Rows
 pub mod Copy

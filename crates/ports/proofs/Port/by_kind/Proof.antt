@@ -1,0 +1,97 @@
+-- Each arm is one clause of `byKind`.
+use Rattle.ports.specs.Hearing.{byKind}
+use borrow.Author.Needs.{needs}
+use Rattle.ports.proofs.Port.by_kind.Statement.{statement}
+use Rattle.ports.proofs.Port.by_kind.Tie as tie
+
+enum-told : tie.Need-enum-told
+enum-told c = search needs
+
+line-end-requires : tie.Need-line-end-requires
+line-end-requires c κs = search needs
+
+enum-told-2 : tie.Need-enum-told-2
+enum-told-2 c = search needs
+
+enum-told-3 : tie.Need-enum-told-3
+enum-told-3 c = search needs
+
+enum-told-4 : tie.Need-enum-told-4
+enum-told-4 c = search needs
+
+emptied-requires : tie.Need-emptied-requires
+emptied-requires c κs = search needs
+
+with-choice-requires : tie.Need-with-choice-requires
+with-choice-requires c κs = search needs
+
+enum-told-5 : tie.Need-enum-told-5
+enum-told-5 c = search needs
+
+asked-requires : tie.Need-asked-requires
+asked-requires c κs = search needs
+
+enum-told-6 : tie.Need-enum-told-6
+enum-told-6 c = search needs
+
+grown-requires : tie.Need-grown-requires
+grown-requires c κs = search needs
+
+enum-told-7 : tie.Need-enum-told-7
+enum-told-7 c = search needs
+
+spoilt-requires : tie.Need-spoilt-requires
+spoilt-requires c κs = search needs
+
+returns : tie.Need-returns
+unfolding byKind
+returns c = rw (c .line-end .ensures, c .before .enum-told .given .1)
+
+returns-2 : tie.Need-returns-2
+unfolding byKind
+returns-2 c = rw (c .enum-told2 .given .1)
+
+returns-3 : tie.Need-returns-3
+unfolding byKind
+returns-3 c = rw (c .enum-told3 .given .1)
+
+returns-4 : tie.Need-returns-4
+unfolding byKind
+returns-4 c = rw (c .with-choice .ensures, c .before .emptied .ensures, c .before .before .before .enum-told4 .given .1)
+
+returns-5 : tie.Need-returns-5
+unfolding byKind
+returns-5 c = rw (c .asked .ensures, c .before .enum-told5 .given .1)
+
+returns-6 : tie.Need-returns-6
+unfolding byKind
+returns-6 c = rw (c .grown .ensures, c .before .enum-told6 .given .1)
+
+returns-7 : tie.Need-returns-7
+unfolding byKind
+returns-7 c = rw (c .spoilt .ensures, c .before .enum-told7 .given .1)
+
+pub by-kind-spec : {M : Type 1} → statement M
+by-kind-spec =
+    tie.close
+    (tie.spec
+    enum-told
+    line-end-requires
+    enum-told-2
+    enum-told-3
+    enum-told-4
+    emptied-requires
+    with-choice-requires
+    enum-told-5
+    asked-requires
+    enum-told-6
+    grown-requires
+    enum-told-7
+    spoilt-requires
+    returns
+    returns-2
+    returns-3
+    returns-4
+    returns-5
+    returns-6
+    returns-7)

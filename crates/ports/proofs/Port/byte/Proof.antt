@@ -1,0 +1,31 @@
+-- The tests are the definition's: the LF behind a CR, or a byte of its kind.
+use Rattle.ports.specs.Hearing.{heard}
+use borrow.Author.Needs.{needs}
+use Rattle.ports.proofs.Port.byte.Statement.{statement}
+use Rattle.ports.proofs.Port.byte.Tie as tie
+
+marked-requires : tie.Need-marked-requires
+marked-requires c κs = search needs
+
+returns : tie.Need-returns
+unfolding heard
+returns c = rw (c .if1 .taken, c .before .before .marked .ensures)
+
+stopped-requires : tie.Need-stopped-requires
+stopped-requires c κs = search needs
+
+kind-of-requires : tie.Need-kind-of-requires
+kind-of-requires c κs = search needs
+
+by-kind-requires : tie.Need-by-kind-requires
+by-kind-requires c κs = search needs
+
+returns-2 : tie.Need-returns-2
+unfolding heard
+returns-2 c =
+    rw (c .before .before .before .if1 .left, c .by-kind .ensures, c .before .kind-of .ensures, c .before .before .stopped .ensures, c .before .before .before .before .before .marked .ensures)
+
+pub byte-spec : {M : Type 1} → statement M
+byte-spec =
+    tie.close
+    (tie.spec marked-requires returns stopped-requires kind-of-requires by-kind-requires returns-2)

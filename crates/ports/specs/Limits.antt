@@ -1,0 +1,44 @@
+-- The limits of a port (01, "Readings, switching, streaming": "State limits").
+use Prim.Native.Nat.{ℕ}
+use mathlib.Core.Path.{_≡_}
+use mathlib.Core.Bool.{Bool, true, not, _&&_, _||_}
+use lib.ListN.{length, take, drop}
+use lib.Dec.{eqb, leb, ltb}
+use Rattle.settings.specs.Lists.{every}
+use Rattle.settings.specs.Mnemonics.{answers}
+use Rattle.settings.specs.declared.model.Model.{Model}
+use Rattle.ports.specs.Stream.{intervalOf}
+use Rattle.ports.specs.declared.Port.{Port}
+use Rattle.ports.specs.declared.Selection.{Selection}
+use Rattle.ports.specs.declared.Selection.the-variants.{Nothing, Of as Chosen}
+
+-- a byte from low to high
+abbrev pub inRange : ℕ → ℕ → ℕ → Bool
+inRange low high b = leb low b && leb b high
+
+-- "the line at most 80 with unused places zero, empty when bad"; a used place holds a character
+unfoldable pub lineWithin : Port → Bool
+lineWithin p =
+    leb (p .len) 80
+    && (every (inRange 33 126) (take (p .len) (p .line)) && every (inRange 0 0) (drop (p .len) (p .line)) && (not (p .bad) || eqb (p .len) 0))
+
+-- the interval of a mode
+abbrev pub isInterval : ℕ → Bool
+isInterval n = eqb n (intervalOf 0) || (eqb n (intervalOf 1) || eqb n (intervalOf 2))
+
+-- "the tick count below the interval, 0 when not streaming"
+abbrev pub streamWithin : Port → Bool
+streamWithin p = eqb (p .interval) 0 && eqb (p .ticks) 0 || isInterval (p .interval) && ltb (p .ticks) (p .interval)
+
+-- "a selection that the model can answer"
+abbrev pub selectionWithin : Model → Selection → Bool
+selectionWithin model Nothing = true
+selectionWithin model (Chosen m) = answers model m
+
+-- all limits of a port
+unfoldable pub portWithin : Model → Port → Bool
+portWithin model p = lineWithin p && (streamWithin p && selectionWithin model (p .selection))
+
+-- the line has its eighty places, as the type of the port says
+pub record Eighty (p : Port) : Type 0 where
+  pub line : length (p .line) ≡ 80

@@ -1,0 +1,215 @@
+// One byte of the host: what it does to the port, and what it makes the box do.
+ghost use mathlib.Core.Path.{_≡_};
+ghost use Rattle.ports.specs.Hearing.{kindOf, freshPort, withMark, withChoice, selected, concluded, lineEnd, worded, replied, asked, byKind, heard};
+use crate::Event;
+use crate::Heard;
+use crate::Port;
+use crate::Selection;
+use crate::stream::interval_of;
+use lines::verdict::Verdict;
+use lines::word::Word;
+use settings::mnemonic::Mnemonic;
+use settings::mnemonic::Query;
+use settings::model::Model;
+
+const CR: u8 = 13;
+
+const LF: u8 = 10;
+
+const ETX: u8 = 3;
+
+const ENQ: u8 = 5;
+
+const SPACE: u8 = 32;
+
+const DEL: u8 = 127;
+
+pub enum ByteKind {
+    Cr,
+    Lf,
+    Space,
+    Etx,
+    Enq,
+    Character,
+    Spoiling,
+}
+
+fn kind_of(b: u8) -> ByteKind
+    ensures { λ r. ⌜ r ≡ kindOf b ⌝ }
+{
+    if b == CR {
+        return ByteKind::Cr;
+    }
+    if b == LF {
+        return ByteKind::Lf;
+    }
+    if b == ETX {
+        return ByteKind::Etx;
+    }
+    if b == ENQ {
+        return ByteKind::Enq;
+    }
+    if b == SPACE {
+        return ByteKind::Space;
+    }
+    if (SPACE < b) & (b < DEL) {
+        return ByteKind::Character;
+    }
+    ByteKind::Spoiling
+}
+
+// What an accepted line selects.
+fn selects(m: Mnemonic) -> Selection
+    ensures { λ r. ⌜ r ≡ selected m ⌝ }
+{
+    match m {
+        Mnemonic::Setting(_) => Selection::Of(m),
+        Mnemonic::Cf(_) => Selection::Of(m),
+        Mnemonic::Query(_) => Selection::Of(m),
+        Mnemonic::Com => Selection::Nothing,
+        Mnemonic::Sav => Selection::Nothing,
+    }
+}
+
+impl Port {
+    // The port of a fresh box: the stream of power-on runs, and there is nothing else.
+    pub fn fresh(model: Model) -> Port
+        ensures { λ r. ⌜ r ≡ freshPort model ⌝ }
+    {
+        Port {
+            line: [0u8; 80],
+            len: 0,
+            bad: false,
+            ended: false,
+            selection: Selection::Nothing,
+            error: Word::none(),
+            interval: interval_of(model.power_on_mode()),
+            ticks: 0,
+        }
+    }
+
+    fn marked(self, ended: bool) -> Port
+        ensures { λ r. ⌜ r ≡ withMark self ended ⌝ }
+    {
+        let mut p = self;
+        p.ended = ended;
+        p
+    }
+
+    fn with_choice(self, selection: Selection, error: Word) -> Port
+        ensures { λ r. ⌜ r ≡ withChoice self selection error ⌝ }
+    {
+        let line = self.line;
+        Port {
+            line,
+            len: self.len,
+            bad: self.bad,
+            ended: self.ended,
+            selection,
+            error,
+            interval: self.interval,
+            ticks: self.ticks,
+        }
+    }
+
+    // The port after a line that was judged.
+    fn concluded(self, v: Verdict) -> Port
+        ensures { λ r. ⌜ r ≡ concluded self v ⌝ }
+    {
+        let error = self.error;
+        match v {
+            Verdict::Asks(m) => self.with_choice(selects(m), error),
+            Verdict::Writes(m, r) => self.with_choice(selects(m), error).begun(m, r),
+            Verdict::Refused(x) => self.with_choice(Selection::Nothing, error.with(x)),
+        }
+    }
+
+    fn line_end(self, model: Model) -> Heard
+        ensures { λ r. ⌜ r ≡ lineEnd model self ⌝ }
+    {
+        let v = self.judged(model);
+        let port = self.emptied().marked(true).concluded(v);
+        Heard {
+            port,
+            event: Event::Line(v),
+        }
+    }
+
+    // An ENQ that the error word answers.
+    fn worded(self) -> Heard
+        ensures { λ r. ⌜ r ≡ worded self ⌝ }
+    {
+        let error = self.error;
+        let port = self.emptied().with_choice(Selection::Nothing, Word::none());
+        Heard {
+            port,
+            event: Event::Reply(Mnemonic::Query(Query::Err), error),
+        }
+    }
+
+    // An ENQ that a selection answers; sent through ERR, too, the word is gone.
+    fn replied(self, m: Mnemonic) -> Heard
+        ensures { λ r. ⌜ r ≡ replied self m ⌝ }
+    {
+        let error = self.error;
+        let event = Event::Reply(m, error);
+        if m.is_err() {
+            let port = self.with_choice(Selection::Of(m), Word::none());
+            return Heard { port, event };
+        }
+        Heard { port: self, event }
+    }
+
+    fn asked(self) -> Heard
+        ensures { λ r. ⌜ r ≡ asked self ⌝ }
+    {
+        let selection = self.selection;
+        if self.is_empty() {
+            match selection {
+                Selection::Nothing => self.worded(),
+                Selection::Of(m) => self.replied(m),
+            }
+        } else {
+            self.worded()
+        }
+    }
+
+    fn by_kind(self, model: Model, kind: ByteKind, b: u8) -> Heard
+        ensures { λ r. ⌜ r ≡ byKind model kind self b ⌝ }
+    {
+        let event = Event::Silent;
+        match kind {
+            ByteKind::Cr => self.line_end(model),
+            ByteKind::Lf => Heard { port: self, event },
+            ByteKind::Space => Heard { port: self, event },
+            ByteKind::Etx => {
+                let error = self.error;
+                let port = self.emptied().with_choice(Selection::Nothing, error);
+                Heard { port, event }
+            }
+            ByteKind::Enq => self.asked(),
+            ByteKind::Character => {
+                let port = self.grown(b);
+                Heard { port, event }
+            }
+            ByteKind::Spoiling => {
+                let port = self.spoilt();
+                Heard { port, event }
+            }
+        }
+    }
+
+    // One byte of the host, on a box of the model.
+    pub fn byte(self, model: Model, b: u8) -> Heard
+        ensures { λ r. ⌜ r ≡ heard model self b ⌝ }
+    {
+        let port = self.marked(false);
+        if self.ended & (b == LF) {
+            return Heard {
+                port,
+                event: Event::Silent,
+            };
+        }
+        port.stopped().by_kind(model, kind_of(b), b)
+    }
+}

@@ -1,0 +1,3 @@
+pub mod Channels
+pub mod Lengths
+pub mod Kept

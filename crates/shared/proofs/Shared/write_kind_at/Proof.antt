@@ -1,0 +1,16 @@
+-- The name of the kind of the reading at that place.
+use borrow.Author.Needs.{needs}
+use Rattle.shared.proofs.Shared.write_kind_at.Statement.{statement}
+use Rattle.shared.proofs.Shared.write_kind_at.Tie as tie
+
+reading-at-requires : tie.Need-reading-at-requires
+reading-at-requires c κs = search needs
+
+write-kind-requires : tie.Need-write-kind-requires
+write-kind-requires c κs = search needs
+
+returns : tie.Need-returns
+returns c = rw (c .write-kind .ensures, c .before .reading-at .ensures)
+
+pub write-kind-at-spec : {M : Type 1} → statement M
+write-kind-at-spec = tie.close (tie.spec reading-at-requires write-kind-requires returns)

@@ -1,0 +1,21 @@
+-- The callees give the settings, the saved set and the switches as `written` has them.
+use Rattle.shared.specs.Events.{written}
+use borrow.Author.Needs.{needs}
+use Rattle.shared.proofs.Shared.written.Statement.{statement}
+use Rattle.shared.proofs.Shared.written.Tie as tie
+
+store-requires : tie.Need-store-requires
+store-requires c κs = search needs
+
+saved-by-requires : tie.Need-saved-by-requires
+saved-by-requires c κs = search needs
+
+switches-by-requires : tie.Need-switches-by-requires
+switches-by-requires c κs = search needs
+
+returns : tie.Need-returns
+unfolding written
+returns c = rw (c .switches-by .ensures, c .before .saved-by .ensures, c .before .before .store .ensures)
+
+pub written-spec : {M : Type 1} → statement M
+written-spec = tie.close (tie.spec store-requires saved-by-requires switches-by-requires returns)

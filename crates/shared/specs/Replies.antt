@@ -1,0 +1,69 @@
+-- What a box sends of its shared part (01, "Readings, switching, streaming" and "Settings").
+use Prim.Native.Nat.{ℕ}
+use Prim.Native.Char.{code}
+use mathlib.Core.List.{List, [], _∷_, _++_, map}
+use mathlib.Core.Bool.{Bool, false}
+use lib.ListN.{getD, take}
+use Rattle.text.specs.Text.{ascii}
+use Rattle.text.specs.Digits.{paddedText}
+use Rattle.gauges.specs.Readings.{noReading}
+use Rattle.gauges.specs.Shown.{shownOf, shownText}
+use Rattle.gauges.specs.Kinds.{kindName}
+use Rattle.gauges.specs.declared.reading.Reading.{Reading}
+use Rattle.settings.specs.Models.{channels, names}
+use Rattle.settings.specs.declared.model.Model.{Model}
+use Rattle.settings.specs.declared.mnemonic.Query.{Query}
+use Rattle.settings.specs.declared.mnemonic.Query.the-variants.{Sps, Pr, Prx, Tid, Ayt, Err}
+use Rattle.settings.specs.declared.mnemonic.Mnemonic.{Mnemonic}
+use Rattle.settings.specs.declared.mnemonic.Mnemonic.the-variants.{Setting as Of, Cf, Query as Asked, Com, Sav}
+use Rattle.lines.specs.Splitting.{joined}
+use Rattle.lines.specs.Words.{digit, wordText}
+use Rattle.lines.specs.Replies.{settingText, factorsText, lineEnd}
+use Rattle.lines.specs.declared.word.Word.{Word}
+use Rattle.shared.specs.Events.{eachFour}
+use Rattle.shared.specs.declared.Shared.{Shared}
+
+-- the reading of a channel, counted from 0; "A channel without a reading is status 5, kind 6."
+abbrev pub readingAt : List Reading → ℕ → Reading
+readingAt rs k = getD rs k noReading
+
+-- "status, comma, sign .., d.ddddE, sign, two digits", in the unit chosen
+abbrev pub shownAt : Shared → ℕ → List ℕ
+shownAt s k = shownText (shownOf (readingAt (s .readings) k) (s .settings .unit))
+
+-- "the name of each channel's kind"
+abbrev pub kindAt : Shared → ℕ → List ℕ
+kindAt s k = kindName (readingAt (s .readings) k .kind)
+
+-- "each the model has", commas between
+unfoldable pub perChannel : Model → (ℕ → List ℕ) → List ℕ
+perChannel model text = joined (map text (take (channels model) (0 ∷ 1 ∷ [])))
+
+-- "SPS sends four digits with commas."
+abbrev pub switchesText : List Bool → List ℕ
+switchesText on = joined (map (λ (b : Bool). digit b ∷ []) (eachFour (λ i. getD on i false)))
+
+-- "sends TPG362,PTG28290,44990000,010100,010100"; "The serial has eight digits."
+abbrev pub serialText : Model → ℕ → List ℕ
+serialText model serial = names model ++ (code "," ∷ (paddedText serial 8 ++ ascii ",010100,010100"))
+
+-- the replies of those that take no field; ERR sends the error word
+abbrev pub queryText : Shared → Word → Query → List ℕ
+queryText s error Sps = switchesText (s .switches)
+queryText s error (Pr k) = shownAt s k
+queryText s error Prx = perChannel (s .model) (shownAt s)
+queryText s error Tid = perChannel (s .model) (kindAt s)
+queryText s error Ayt = serialText (s .model) (s .serial)
+queryText s error Err = wordText error
+
+-- the reply of each mnemonic, "then CR LF"; COM and SAV have none
+unfoldable pub replyText : Shared → Word → Mnemonic → List ℕ
+replyText s error (Of x) = settingText (s .model) (s .settings) x ++ lineEnd
+replyText s error (Cf k) = factorsText (s .model) (s .settings) ++ lineEnd
+replyText s error (Asked q) = queryText s error q ++ lineEnd
+replyText s error Com = []
+replyText s error Sav = []
+
+-- "PRX and the stream: each the model has"
+unfoldable pub streamText : Shared → List ℕ
+streamText s = perChannel (s .model) (shownAt s) ++ lineEnd

@@ -1,0 +1,45 @@
+// The limits of the shared part.
+ghost use mathlib.Core.Path.{_≡_};
+ghost use Rattle.shared.specs.Limits.{readingWithin, switchesWithin, sharedWithin};
+use crate::Shared;
+use gauges::reading::Reading;
+use settings::Switching;
+use settings::model::Model;
+
+// A channel that the model lacks has no reading.
+fn reading_is_within(model: Model, k: usize, r: Reading) -> bool
+    ensures { λ x. ⌜ x ≡ readingWithin model k r ⌝ }
+{
+    let here = k < model.channels();
+    let absent = r.kind == Reading::KIND_NO_SENSOR;
+    r.is_within() & (here | absent)
+}
+
+fn switches_are_within(model: Model, w: [Switching; 4], on: [bool; 4]) -> bool
+    ensures { λ r. ⌜ r ≡ switchesWithin model w on ⌝ }
+{
+    let a = model.agrees(w[0].assignment, on[0]);
+    let b = model.agrees(w[1].assignment, on[1]);
+    let c = model.agrees(w[2].assignment, on[2]);
+    let d = model.agrees(w[3].assignment, on[3]);
+    a & (b & (c & d))
+}
+
+impl Shared {
+    // Whether a box can be so.
+    pub fn is_within(self) -> bool
+        ensures { λ r. ⌜ r ≡ sharedWithin self ⌝ }
+    {
+        let model = self.model;
+        let settings = self.settings;
+        let saved = self.saved;
+        let readings = self.readings;
+        let w = settings.switching;
+        let on = self.switches;
+        let set = settings.is_within(model) & saved.is_within(model);
+        let first = reading_is_within(model, 0, readings[0]);
+        let second = reading_is_within(model, 1, readings[1]);
+        let switched = switches_are_within(model, w, on);
+        (self.serial <= Shared::MOST_SERIAL) & (set & ((first & second) & switched))
+    }
+}

@@ -1,0 +1,163 @@
+-- Every call keeps the limits of the state, and a fresh box has them.
+use Prim.Native.Nat.{ℕ, _+_, _-_, _≤_, _<_}
+use mathlib.Core.Path.{_≡_, refl, sym, ap, _∙_, subst}
+use mathlib.Core.List.{List, [], _∷_}
+use mathlib.Core.Bool.{Bool, true, false, cond, _&&_}
+use native.Mathlib.Omega.{arith}
+use lib.Dec.{leb}
+use Rattle.gauges.specs.Readings.{withinLimits}
+use Rattle.gauges.specs.declared.reading.Reading.{Reading}
+use Rattle.numbers.proofs.Cases.{and-true, cond-cases, ranged}
+use Rattle.settings.specs.Models.{modelOf, channels, defaults}
+use Rattle.settings.specs.declared.model.Model.{Model}
+use Rattle.settings.specs.declared.model.Model.the-variants.{Tpg361}
+use Rattle.settings.specs.declared.model.Numbered.{Numbered}
+use Rattle.settings.specs.declared.model.Numbered.the-variants.{One, NoModel}
+use Rattle.settings.proofs.Keeping.{defaults-within, defaults-shaped}
+use Rattle.lines.specs.Judging.{judged}
+use Rattle.lines.specs.declared.verdict.Verdict.{Verdict}
+use Rattle.lines.specs.declared.verdict.Verdict.the-variants.{Asks, Writes, Refused}
+use Rattle.ports.specs.Line.{held}
+use Rattle.ports.specs.Limits.{portWithin, Eighty}
+use Rattle.ports.specs.Stream.{ticked}
+use Rattle.ports.specs.declared.Event.{Event}
+use Rattle.ports.specs.declared.Event.the-variants.{Silent, Line, Reply}
+use Rattle.ports.proofs.Kept as ports
+use Rattle.shared.specs.Events.{taken as readingTaken, written, heard}
+use Rattle.shared.specs.Limits.{sharedWithin, serialWithin, Whole}
+use Rattle.shared.specs.declared.Shared.{Shared}
+use Rattle.shared.proofs.Kept as shared
+use Rattle.tpg.specs.Answers.{answer, handed}
+use Rattle.tpg.specs.States.{stateWithin, freshBox, cycled, Formed}
+use Rattle.tpg.specs.Steps.{acted, hearing, next, after}
+use Rattle.tpg.specs.Calls.{made, freshCall, roomed, takenBytes, hosted, hostCall, counted, tickCall, isChannel, read, readingCall, cycleCall}
+use Rattle.tpg.specs.declared.State.{State}
+use Rattle.tpg.specs.declared.answers.Outcome.{Outcome}
+
+-- a state that a box can be in: its arrays have their lengths and its values their limits
+pub record Sound (s : State) : Type 0 where
+  pub formed : Formed s
+  pub within : stateWithin s ≡ true
+
+parts : (s : State) → stateWithin s ≡ true → (sharedWithin (s .shared) ≡ true) × (portWithin (s .shared .model) (s .port) ≡ true)
+unfolding stateWithin
+parts s e = and-true (sharedWithin (s .shared)) (portWithin (s .shared .model) (s .port)) e
+
+together : (s : State) → sharedWithin (s .shared) ≡ true → portWithin (s .shared .model) (s .port) ≡ true → stateWithin s ≡ true
+unfolding stateWithin
+together s a b = rw (a, b)
+
+-- ---- what starts
+
+module _ (model : Model) (serial : ℕ) (h : serialWithin serial ≡ true) where
+  pub fresh-sound : Sound (freshBox model serial)
+  fresh-sound = record {
+    formed = record { shared = shared.started-whole model serial (defaults model) (defaults-shaped model); port = ports.fresh-eighty model };
+    within = together (freshBox model serial) (shared.started-within model serial (defaults model) h (defaults-within model)) (ports.fresh-within model);
+  }
+
+-- ---- one byte, and a run of bytes
+
+-- an event leaves the model, and the lengths of the arrays
+heard-model : (s : Shared) (v : Verdict) → heard s v .model ≡ s .model
+unfolding written
+heard-model s (Asks m) = refl
+heard-model s (Writes m r) = refl
+heard-model s (Refused x) = refl
+
+acted-model : (s : Shared) (e : Event) → acted s e .model ≡ s .model
+acted-model s Silent = refl
+acted-model s (Line v) = heard-model s v
+acted-model s (Reply m error) = refl
+
+acted-whole : (s : Shared) (e : Event) → Whole s → Whole (acted s e)
+acted-whole s Silent w = w
+acted-whole s (Line v) w = shared.heard-whole s v w
+acted-whole s (Reply m error) w = w
+
+module _ (s : State) (b : ℕ) (k : Sound s) where
+  acted-within : (e : Event) → hearing s b .event ≡ e → sharedWithin (acted (s .shared) e) ≡ true
+  acted-within Silent q = parts s (k .within) .0
+  acted-within (Line v) q =
+      subst (λ u. sharedWithin (heard (s .shared) u) ≡ true) (sym (ports.heard-line (s .shared .model) (s .port) b v q))
+      (shared.heard-within (s .shared) (held (s .port)) (k .formed .shared) (parts s (k .within) .0))
+  acted-within (Reply m error) q = parts s (k .within) .0
+
+  pub next-sound : Sound (next s b)
+  unfolding next
+  next-sound =
+      let e = hearing s b .event in
+      record {
+        formed = record {
+          shared = acted-whole (s .shared) e (k .formed .shared);
+          port = ports.heard-eighty (s .shared .model) (s .port) b (k .formed .port);
+        };
+        within = together _ (acted-within e refl)
+            (rw (acted-model (s .shared) e) (ports.heard-within (s .shared .model) (s .port) b (k .formed .port) (parts s (k .within) .1)));
+      }
+
+pub after-sound : (bs : List ℕ) (s : State) → Sound s → Sound (after s bs)
+unfolding after
+after-sound [] s k = k
+after-sound (b ∷ bs) s k = after-sound bs (next s b) (next-sound s b k)
+
+-- ---- the calls
+
+pub fresh-call-sound : (n serial : ℕ) → Sound (freshCall n serial .state)
+unfolding freshCall
+fresh-call-sound n serial = by (modelOf n)
+  where
+    by : (m : Numbered) → Sound (made m serial .state)
+    by (One model) =
+        cond-cases (λ o. Sound (o .state)) (serialWithin serial) (handed (answer 0) (freshBox model serial)) (handed (answer 2) (freshBox Tpg361 0))
+        (λ h. fresh-sound model serial h) (λ _. fresh-sound Tpg361 0 refl)
+    by NoModel = fresh-sound Tpg361 0 refl
+
+module _ (s : State) (k : Sound s) where
+  roomed-sound : (room : ℕ) (o : Outcome) → Sound (o .state) → Sound (roomed s room o .state)
+  unfolding roomed
+  roomed-sound room o h =
+      cond-cases (λ o. Sound (o .state)) (stateWithin s) (cond (leb 64 room) o (handed (answer 3) s)) (handed (answer 1) s)
+      (λ _. cond-cases (λ o. Sound (o .state)) (leb 64 room) o (handed (answer 3) s) (λ _. h) (λ _. k)) (λ _. k)
+
+  pub host-sound : (input : List ℕ) (room : ℕ) → Sound (hostCall s input room .state)
+  unfolding hosted
+  host-sound input room = roomed-sound room (hosted s input room) (after-sound (takenBytes s input room) s k)
+
+  pub tick-sound : (room : ℕ) → Sound (tickCall s room .state)
+  unfolding counted
+  tick-sound room =
+      roomed-sound room (counted s) (record {
+        formed = record { shared = k .formed .shared; port = ports.ticked-eighty (s .port) (k .formed .port) };
+        within = together _ (parts s (k .within) .0) (ports.ticked-within (s .shared .model) (s .port) (parts s (k .within) .1));
+      })
+
+  read-sound : (channel : ℕ) (r : Reading) → isChannel (s .shared .model) channel ≡ true → withinLimits r ≡ true → Sound (read s (channel - 1) r)
+  unfolding readingTaken
+  read-sound channel r c w =
+      let low = ranged 1 (channels (s .shared .model)) channel c in
+      record {
+        formed = record { shared = shared.taken-whole (s .shared) (channel - 1) r (k .formed .shared); port = k .formed .port };
+        within = together _
+            (shared.taken-within (s .shared) (channel - 1) r (k .formed .shared) (parts s (k .within) .0) (omega arith) w) (parts s (k .within) .1);
+      }
+
+  pub reading-sound : (channel : ℕ) (r : Reading) → Sound (readingCall s channel r .state)
+  unfolding readingCall
+  reading-sound channel r =
+      let P : Outcome → Type 0 = λ o. Sound (o .state) in
+      cond-cases P (stateWithin s) _ (handed (answer 1) s)
+      (λ _. cond-cases P (isChannel (s .shared .model) channel) _ (handed (answer 4) s)
+      (λ c. cond-cases P (withinLimits r) (handed (answer 0) (read s (channel - 1) r)) (handed (answer 5) s) (λ w. read-sound channel r c w) (λ _. k)) (λ _. k)) (λ _. k)
+
+  pub cycle-sound : Sound (cycleCall s .state)
+  unfolding cycleCall
+  cycle-sound =
+      let p = shared.parts (s .shared) (parts s (k .within) .0) in
+      let model = s .shared .model in
+      cond-cases (λ o. Sound (o .state)) (stateWithin s) (handed (answer 0) (cycled s)) (handed (answer 1) s)
+      (λ _. record {
+        formed = record { shared = shared.started-whole model (s .shared .serial) (s .shared .saved) (k .formed .shared .saved); port = ports.fresh-eighty model };
+        within = together (cycled s) (shared.started-within model (s .shared .serial) (s .shared .saved) (p .serial) (p .saved)) (ports.fresh-within model);
+      })
+      (λ _. k)

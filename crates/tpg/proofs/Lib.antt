@@ -1,0 +1,5 @@
+pub mod Laying
+pub mod Runs
+pub mod Sending
+pub mod Refusals
+pub mod Kept

@@ -1,0 +1,69 @@
+-- What is refused changes nothing: a call hands its state back and sends nothing, a line leaves all but the port as it was.
+use Prim.Native.Nat.{ℕ, _-_}
+use mathlib.Core.Path.{_≡_, refl, sym, ap, _∙_}
+use mathlib.Core.List.{List, [], _∷_, map}
+use mathlib.Core.Bool.{Bool, true, false, cond, _&&_}
+use lib.Dec.{leb}
+use Rattle.gauges.specs.Readings.{withinLimits}
+use Rattle.gauges.specs.declared.reading.Reading.{Reading}
+use Rattle.lines.specs.Judging.{judged}
+use Rattle.lines.specs.declared.verdict.Fault.{Fault}
+use Rattle.lines.specs.declared.verdict.Verdict.the-variants.{Refused}
+use Rattle.ports.specs.declared.Event.{Event}
+use Rattle.ports.specs.declared.Event.the-variants.{Line}
+use Rattle.numbers.proofs.Cases.{never}
+use Rattle.tpg.specs.Answers.{number, table, answer, handed}
+use Rattle.tpg.specs.States.{stateWithin, cycled}
+use Rattle.tpg.specs.Steps.{acted, hearing, next, over}
+use Rattle.tpg.specs.Calls.{roomed, roomedBytes, isChannel, read, readingCall, cycleCall}
+use Rattle.tpg.specs.declared.State.{State}
+use Rattle.tpg.specs.declared.answers.Outcome.{Outcome}
+
+-- the table's numbers are those of its places
+pub numbers-hold : map number table ≡ 0 ∷ 1 ∷ 2 ∷ 3 ∷ 4 ∷ 5 ∷ []
+numbers-hold = refl
+
+-- a call that is not answered 0 hands the state back as it came, with its counts 0
+abbrev pub Back : State → Outcome → Type 0
+Back s o = (number (o .answer) ≡ 0 → ⊥) → o ≡ handed (o .answer) s
+
+module _ (s : State) where
+  -- and, with an output, sends nothing
+  pub roomed-back : (room : ℕ) (o : Outcome) (bytes : List ℕ) → o .answer ≡ answer 0
+      → (number (roomed s room o .answer) ≡ 0 → ⊥) → (roomed s room o ≡ handed (roomed s room o .answer) s) × (roomedBytes s room bytes ≡ [])
+  unfolding roomed roomedBytes
+  roomed-back room o bytes e = by (stateWithin s) (leb 64 room)
+    where
+      by : (a b : Bool) → let r = cond a (cond b o (handed (answer 3) s)) (handed (answer 1) s) in
+          (number (r .answer) ≡ 0 → ⊥) → (r ≡ handed (r .answer) s) × (cond (a && b) bytes [] ≡ [])
+      by false b n = (refl, refl)
+      by true false n = (refl, refl)
+      by true true n = absurd (n (ap number e))
+
+  pub reading-back : (channel : ℕ) (r : Reading) → Back s (readingCall s channel r)
+  unfolding readingCall
+  reading-back channel r = by (stateWithin s) (isChannel (s .shared .model) channel) (withinLimits r)
+    where
+      by : (a b c : Bool) → Back s (cond a (cond b (cond c (handed (answer 0) (read s (channel - 1) r)) (handed (answer 5) s)) (handed (answer 4) s)) (handed (answer 1) s))
+      by false b c n = refl
+      by true false c n = refl
+      by true true false n = refl
+      by true true true n = absurd (n refl)
+
+  pub cycle-back : Back s (cycleCall s)
+  unfolding cycleCall
+  cycle-back = by (stateWithin s)
+    where
+      by : (a : Bool) → Back s (cond a (handed (answer 0) (cycled s)) (handed (answer 1) s))
+      by false n = refl
+      by true n = absurd (n refl)
+
+  -- "A refused line leaves settings, saved set and readings as they were", and the switches
+  pub line-refused : (b : ℕ) (x : Fault) → hearing s b .event ≡ Line (Refused x) → next s b .shared ≡ s .shared
+  unfolding next
+  line-refused b x e = ap (acted (s .shared)) e
+
+-- where nothing is sent the output stays as it was
+pub untouched : (out : List ℕ) → over [] out ≡ out
+unfolding over
+untouched out = refl

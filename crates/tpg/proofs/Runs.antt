@@ -1,0 +1,110 @@
+-- The run over the host's bytes, byte by byte.
+use Prim.Native.Nat.{ℕ, zero, suc, _+_, _-_, _≤_, _<_}
+use mathlib.Core.Path.{_≡_, refl, sym, ap, _∙_}
+use mathlib.Core.List.{List, [], _∷_, _++_, append-assoc, append-nil}
+use native.Mathlib.Omega.{arith}
+use native.Mathlib.Nat.{zero-add, add-zero}
+use native.Mathlib.Numerals.{add-one}
+use borrow.Author.Tests.{le-leb, lt-leb}
+use lib.ListN.{length, getD, take, drop, length-append, drop-of-length-le}
+use lib.Seq.{take-suc, drop-cons}
+use Rattle.ports.specs.declared.Port.{Port}
+use Rattle.shared.specs.declared.Shared.{Shared}
+use Rattle.tpg.specs.Answers.{answer}
+use Rattle.tpg.specs.Steps.{next, sent, after, said, taken, over, laidAt}
+use Rattle.tpg.specs.Calls.{takenBytes, hostText, hosted}
+use Rattle.tpg.specs.declared.State.{State}
+use Rattle.tpg.specs.declared.answers.Outcome.{Outcome}
+use Rattle.tpg.proofs.Laying.{over-more}
+
+pub after-append : (xs ys : List ℕ) (s : State) → after s (xs ++ ys) ≡ after (after s xs) ys
+unfolding after
+after-append [] ys s = refl
+after-append (x ∷ xs) ys s = after-append xs ys (next s x)
+
+pub said-append : (xs ys : List ℕ) (s : State) → said s (xs ++ ys) ≡ said s xs ++ said (after s xs) ys
+unfolding after said
+said-append [] ys s = refl
+said-append (x ∷ xs) ys s = rw (said-append xs ys (next s x)) (sym (append-assoc (sent s x) (said (next s x) xs) (said (after (next s x) xs) ys)))
+
+-- one byte more
+module _ (s : State) (l : List ℕ) (i : ℕ) (h : i < length l) where
+  more : take (i + 1) l ≡ take i l ++ getD l i 0 ∷ []
+  more = rw (add-one i) (take-suc l i 0 h)
+
+  pub after-next : after s (take (i + 1) l) ≡ next (after s (take i l)) (getD l i 0)
+  unfolding after
+  after-next = rw more (after-append (take i l) (getD l i 0 ∷ []) s)
+
+  pub said-next : said s (take (i + 1) l) ≡ said s (take i l) ++ sent (after s (take i l)) (getD l i 0)
+  unfolding said
+  said-next = rw more (said-append (take i l) (getD l i 0 ∷ []) s ∙ ap (λ (x : List ℕ). said s (take i l) ++ x) (append-nil (sent (after s (take i l)) (getD l i 0))))
+
+-- how many are taken: one more where there is room, none where there is not or nothing is left
+module _ (s : State) where
+  pub taken-more : (l : List ℕ) (i f : ℕ) → i < length l → 64 ≤ f
+      → taken s (drop i l) f ≡ suc (taken (next s (getD l i 0)) (drop (i + 1) l) (f - length (sent s (getD l i 0))))
+  unfolding taken
+  taken-more l i f h r = rw (drop-cons l i 0 h, le-leb 64 f r, add-one i)
+
+  pub taken-full : (l : List ℕ) (f : ℕ) → f < 64 → taken s l f ≡ 0
+  unfolding taken
+  taken-full [] f h = refl
+  taken-full (b ∷ bs) f h = rw (lt-leb 64 f h)
+
+  pub taken-end : (l : List ℕ) (i f : ℕ) → length l ≤ i → taken s (drop i l) f ≡ 0
+  unfolding taken
+  taken-end l i f h = rw (drop-of-length-le l {i = i} h)
+
+-- where a run stands after t bytes that sent w
+pub record Going (s : State) (input out₀ : List ℕ) (shared : Shared) (port : Port) (out : List ℕ) (t w : ℕ) : Type 0 where
+  pub low : t ≤ length input
+  pub state : record { shared = shared; port = port } ≡ after s (take t input)
+  pub bytes : out ≡ over (said s (take t input)) out₀
+  pub count : w ≡ length (said s (take t input))
+  pub inside : w ≤ length out₀
+  pub left : taken s input (length out₀) ≡ t + taken (record { shared = shared; port = port }) (drop t input) (length out₀ - w)
+
+module _ (s : State) (input out₀ : List ℕ) where
+  pub start : Going s input out₀ (s .shared) (s .port) out₀ 0 0
+  unfolding after said over
+  start = record {
+    low = omega arith;
+    state = refl;
+    bytes = refl;
+    count = refl;
+    inside = omega arith;
+    left = let e : length out₀ - 0 ≡ length out₀ = omega arith in rw (e, zero-add (taken s input (length out₀)));
+  }
+
+  module _ (shared : Shared) (port : Port) (out : List ℕ) (t w : ℕ) (g : Going s input out₀ shared port out t w) where
+    abbrev now : State
+    now = record { shared = shared; port = port }
+
+    abbrev byte : ℕ
+    byte = getD input t 0
+
+    pub step : (shared' : Shared) (port' : Port) (out' : List ℕ) (w' : ℕ) → t < length input → w + 64 ≤ length out₀ → length (sent now byte) ≤ 64
+        → record { shared = shared'; port = port' } ≡ next now byte → out' ≡ laidAt w (sent now byte) out → w' ≡ w + length (sent now byte)
+        → Going s input out₀ shared' port' out' (t + 1) w'
+    step shared' port' out' w' more room short state bytes count =
+        let was : now ≡ after s (take t input) = g .state in
+        let all : said s (take (t + 1) input) ≡ said s (take t input) ++ sent now byte =
+        said-next s input t more ∙ ap (λ (x : State). said s (take t input) ++ sent x byte) (sym was) in
+        let f : (length out₀ - w) - length (sent now byte) ≡ length out₀ - w' = omega (arith, count) in
+        record {
+          low = omega arith;
+          state = state ∙ ap (λ (x : State). next x byte) was ∙ sym (after-next s input t more);
+          bytes = bytes ∙ rw (g .bytes, g .count) (over-more (said s (take t input)) (sent now byte) out₀) ∙ ap (λ (x : List ℕ). over x out₀) (sym all);
+          count = rw all (count ∙ rw (g .count) (sym (length-append (said s (take t input)) (sent now byte))));
+          inside = omega (arith, count);
+          left = g .left ∙ rw (taken-more now input t (length out₀ - w) more (omega arith), f, ← state) (omega arith);
+        }
+
+    module _ (none : taken now (drop t input) (length out₀ - w) ≡ 0) where
+      all-taken : taken s input (length out₀) ≡ t
+      all-taken = g .left ∙ rw none (add-zero t)
+
+      pub ended : (record { answer = answer 0; state = now; taken = t; written = w } ≡ hosted s input (length out₀)) × (out ≡ over (hostText s input (length out₀)) out₀)
+      unfolding hosted
+      ended = rw all-taken ((λ i. record { answer = answer 0; state = g .state i; taken = t; written = g .count i }), g .bytes)

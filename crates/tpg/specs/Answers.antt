@@ -1,0 +1,29 @@
+-- The answers of the calls (01, "Answer numbers of the calls").
+use Prim.Native.Nat.{ℕ}
+use mathlib.Core.List.{List, [], _∷_}
+use lib.ListN.{getD}
+use Rattle.tpg.specs.declared.State.{State}
+use Rattle.tpg.specs.declared.answers.Answer.{Answer}
+use Rattle.tpg.specs.declared.answers.Answer.the-variants.{Accepted, BrokenState, NoModel, ShortOutput, NoChannel, BadReading}
+use Rattle.tpg.specs.declared.answers.Outcome.{Outcome}
+
+-- the table's column "No."
+abbrev pub number : Answer → ℕ
+number Accepted = 0
+number BrokenState = 1
+number NoModel = 2
+number ShortOutput = 3
+number NoChannel = 4
+number BadReading = 5
+
+-- the answers in the order of their numbers
+abbrev pub table : List Answer
+table = Accepted ∷ BrokenState ∷ NoModel ∷ ShortOutput ∷ NoChannel ∷ BadReading ∷ []
+
+-- the answer of a number
+abbrev pub answer : ℕ → Answer
+answer n = getD table n Accepted
+
+-- "that state, counts 0"
+abbrev pub handed : Answer → State → Outcome
+handed a s = record { answer = a; state = s; taken = 0; written = 0 }

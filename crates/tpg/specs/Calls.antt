@@ -1,0 +1,99 @@
+-- The calls (01, "What the box answers to" and "Answer numbers of the calls"): "Tested in the order 1 to 5."
+use Prim.Native.Nat.{ℕ, _-_}
+use mathlib.Core.List.{List, []}
+use mathlib.Core.Bool.{Bool, cond, _&&_}
+use lib.ListN.{length, take}
+use lib.Dec.{leb}
+use Rattle.gauges.specs.Readings.{withinLimits}
+use Rattle.gauges.specs.declared.reading.Reading.{Reading}
+use Rattle.settings.specs.Models.{modelOf, channels}
+use Rattle.settings.specs.declared.model.Model.{Model}
+use Rattle.settings.specs.declared.model.Model.the-variants.{Tpg361}
+use Rattle.settings.specs.declared.model.Numbered.{Numbered}
+use Rattle.settings.specs.declared.model.Numbered.the-variants.{One, NoModel}
+use Rattle.ports.specs.Stream.{ticked}
+use Rattle.shared.specs.Events.{taken as readingTaken}
+use Rattle.shared.specs.Limits.{serialWithin}
+use Rattle.shared.specs.Replies.{streamText}
+use Rattle.tpg.specs.Answers.{answer, handed}
+use Rattle.tpg.specs.States.{stateWithin, freshBox, cycled}
+use Rattle.tpg.specs.Steps.{after, said, taken}
+use Rattle.tpg.specs.declared.State.{State}
+use Rattle.tpg.specs.declared.answers.Outcome.{Outcome}
+
+-- "model not 361 or 362, or serial above 99999999": "a fresh 361, serial 0"
+abbrev pub made : Numbered → ℕ → Outcome
+made (One model) serial = cond (serialWithin serial) (handed (answer 0) (freshBox model serial)) (handed (answer 2) (freshBox Tpg361 0))
+made NoModel serial = handed (answer 2) (freshBox Tpg361 0)
+
+-- a fresh box from the model's number and the serial number
+unfoldable pub freshCall : ℕ → ℕ → Outcome
+freshCall number serial = made (modelOf number) serial
+
+-- "the state handed in breaks a limit": 1; "output shorter than 64 bytes": 3
+unfoldable pub roomed : State → ℕ → Outcome → Outcome
+roomed s room accepted = cond (stateWithin s) (cond (leb 64 room) accepted (handed (answer 3) s)) (handed (answer 1) s)
+
+-- what such a call sends: a refusal sends nothing
+unfoldable pub roomedBytes : State → ℕ → List ℕ → List ℕ
+roomedBytes s room bytes = cond (stateWithin s && leb 64 room) bytes []
+
+-- the host's bytes that are taken
+abbrev pub takenBytes : State → List ℕ → ℕ → List ℕ
+takenBytes s input room = take (taken s input room) input
+
+-- all that is sent for them
+abbrev pub hostText : State → List ℕ → ℕ → List ℕ
+hostText s input room = said s (takenBytes s input room)
+
+-- "answers how many were taken and written"
+unfoldable pub hosted : State → List ℕ → ℕ → Outcome
+hosted s input room = record {
+  answer = answer 0;
+  state = after s (takenBytes s input room);
+  taken = taken s input room;
+  written = length (hostText s input room);
+}
+
+-- the call that takes host bytes, and what it sends
+abbrev pub hostCall : State → List ℕ → ℕ → Outcome
+hostCall s input room = roomed s room (hosted s input room)
+
+abbrev pub hostBytes : State → List ℕ → ℕ → List ℕ
+hostBytes s input room = roomedBytes s room (hostText s input room)
+
+-- a line of the stream, where one is due
+unfoldable pub tickText : State → List ℕ
+tickText s = cond (ticked (s .port) .due) (streamText (s .shared)) []
+
+-- one tick counted
+unfoldable pub counted : State → Outcome
+counted s = record { answer = answer 0; state = record { shared = s .shared; port = ticked (s .port) .port }; taken = 0; written = length (tickText s) }
+
+-- the call that takes a tick, and what it sends
+abbrev pub tickCall : State → ℕ → Outcome
+tickCall s room = roomed s room (counted s)
+
+abbrev pub tickBytes : State → ℕ → List ℕ
+tickBytes s room = roomedBytes s room (tickText s)
+
+-- a channel of the model, counted from 1
+abbrev pub isChannel : Model → ℕ → Bool
+isChannel model channel = leb 1 channel && leb channel (channels model)
+
+-- a reading of a channel, counted from 0
+abbrev pub read : State → ℕ → Reading → State
+read s k r = record { shared = readingTaken (s .shared) k r; port = s .port }
+
+-- "the state handed in breaks a limit": 1; "channel not on the model": 4; "reading outside its limits": 5
+unfoldable pub readingCall : State → ℕ → Reading → Outcome
+readingCall s channel r =
+    cond (stateWithin s)
+    (cond (isChannel (s .shared .model) channel)
+    (cond (withinLimits r) (handed (answer 0) (read s (channel - 1) r)) (handed (answer 5) s))
+    (handed (answer 4) s))
+    (handed (answer 1) s)
+
+-- a power cycle
+unfoldable pub cycleCall : State → Outcome
+cycleCall s = cond (stateWithin s) (handed (answer 0) (cycled s)) (handed (answer 1) s)

@@ -1,0 +1,27 @@
+-- The state of a box (01, "Readings, switching, streaming": "State limits"; "Settings").
+use Prim.Native.Nat.{ℕ}
+use mathlib.Core.Bool.{Bool, _&&_}
+use Rattle.settings.specs.Models.{defaults}
+use Rattle.settings.specs.declared.model.Model.{Model}
+use Rattle.ports.specs.Hearing.{freshPort}
+use Rattle.ports.specs.Limits.{portWithin, Eighty}
+use Rattle.shared.specs.Events.{started}
+use Rattle.shared.specs.Limits.{sharedWithin, Whole}
+use Rattle.tpg.specs.declared.State.{State}
+
+-- "State limits": those of the shared part and of the port
+unfoldable pub stateWithin : State → Bool
+stateWithin s = sharedWithin (s .shared) && portWithin (s .shared .model) (s .port)
+
+-- a fresh box: its saved set is "the defaults", and it starts with it
+abbrev pub freshBox : Model → ℕ → State
+freshBox model serial = record { shared = started model serial (defaults model); port = freshPort model }
+
+-- "A power cycle keeps model, serial and saved set, takes the settings from it, and otherwise starts as a fresh box does"
+abbrev pub cycled : State → State
+cycled s = record { shared = started (s .shared .model) (s .shared .serial) (s .shared .saved); port = freshPort (s .shared .model) }
+
+-- the arrays of a state have their lengths, as its type says
+pub record Formed (s : State) : Type 0 where
+  pub shared : Whole (s .shared)
+  pub port : Eighty (s .port)

@@ -1,0 +1,74 @@
+-- One byte of the host, and a run of bytes (01, "Bytes from the host" and "Answer numbers of the calls").
+use Prim.Native.Nat.{ℕ, suc, _+_, _-_}
+use mathlib.Core.List.{List, [], _∷_, _++_}
+use mathlib.Core.Bool.{Bool, true, false, cond}
+use lib.ListN.{length, take, drop}
+use lib.Dec.{leb}
+use Rattle.lines.specs.Replies.{lineEnd}
+use Rattle.lines.specs.declared.verdict.Verdict.{Verdict}
+use Rattle.lines.specs.declared.verdict.Verdict.the-variants.{Asks, Writes, Refused}
+use Rattle.ports.specs.Hearing.{heard as portHeard}
+use Rattle.ports.specs.declared.Event.{Event}
+use Rattle.ports.specs.declared.Event.the-variants.{Silent, Line, Reply}
+use Rattle.ports.specs.declared.Heard.{Heard}
+use Rattle.shared.specs.Events.{heard}
+use Rattle.shared.specs.Replies.{replyText}
+use Rattle.shared.specs.declared.Shared.{Shared}
+use Rattle.tpg.specs.declared.State.{State}
+
+-- "An accepted line sends ACK CR LF", "A refused one sends NAK CR LF"
+abbrev pub lineText : Verdict → List ℕ
+lineText (Asks m) = 6 ∷ lineEnd
+lineText (Writes m r) = 6 ∷ lineEnd
+lineText (Refused x) = 21 ∷ lineEnd
+
+-- what is sent at an event
+unfoldable pub eventText : Shared → Event → List ℕ
+eventText s Silent = []
+eventText s (Line v) = lineText v
+eventText s (Reply m error) = replyText s error m
+
+-- whether nothing is to be done
+abbrev pub isSilent : Event → Bool
+isSilent Silent = true
+isSilent (Line v) = false
+isSilent (Reply m error) = false
+
+-- what an event does to the shared part: only a line can change it
+abbrev pub acted : Shared → Event → Shared
+acted s Silent = s
+acted s (Line v) = heard s v
+acted s (Reply m error) = s
+
+-- what the port makes of a byte
+abbrev pub hearing : State → ℕ → Heard
+hearing s b = portHeard (s .shared .model) (s .port) b
+
+-- the state after one byte, and what is sent
+unfoldable pub next : State → ℕ → State
+next s b = record { shared = acted (s .shared) (hearing s b .event); port = hearing s b .port }
+
+unfoldable pub sent : State → ℕ → List ℕ
+sent s b = eventText (s .shared) (hearing s b .event)
+
+-- the state after bytes, and all that is sent on the way
+unfoldable pub after : State → List ℕ → State
+after s [] = s
+after s (b ∷ bs) = after (next s b) bs
+
+unfoldable pub said : State → List ℕ → List ℕ
+said s [] = []
+said s (b ∷ bs) = sent s b ++ said (next s b) bs
+
+-- how many bytes are taken: "it goes on while input remains and at least 64 output bytes are free before the byte"
+unfoldable pub taken : State → List ℕ → ℕ → ℕ
+taken s [] free = 0
+taken s (b ∷ bs) free = cond (leb 64 free) (suc (taken (next s b) bs (free - length (sent s b)))) 0
+
+-- the output at exit: "only the bytes it counts" are written, from its beginning on
+unfoldable pub over : List ℕ → List ℕ → List ℕ
+over bytes out = bytes ++ drop (length bytes) out
+
+-- bytes laid over an output from a place on
+unfoldable pub laidAt : ℕ → List ℕ → List ℕ → List ℕ
+laidAt at bytes out = take at out ++ bytes ++ drop (at + length bytes) out

@@ -1,0 +1,117 @@
+// The calls that take no bytes: a fresh box, a reading, a tick, a power cycle.
+ghost use mathlib.Core.Path.{_≡_};
+ghost use Prim.Native.Nat.{_≤_};
+ghost use lib.ListN.{length};
+ghost use Rattle.tpg.specs.Answers.{answer, handed};
+ghost use Rattle.tpg.specs.Steps.{over};
+ghost use Rattle.tpg.specs.Calls.{freshCall, counted, tickText, tickCall, tickBytes, read, readingCall, cycleCall};
+use crate::State;
+use crate::answers::Answer;
+use crate::answers::Outcome;
+use gauges::reading::Reading;
+use numbers::value::Value;
+use ports::Port;
+use settings::model::Model;
+use settings::model::Numbered;
+use shared::Shared;
+
+impl State {
+    // A box of the model with that number; where there is none, or the serial is too long, a fresh 361 comes with the refusal.
+    pub fn fresh(number: u32, serial: u32) -> Outcome
+        ensures { λ r. ⌜ r ≡ freshCall number serial ⌝ }
+    {
+        let numbered = Model::numbered(number);
+        match numbered {
+            Numbered::One(model) => {
+                if serial <= Shared::MOST_SERIAL {
+                    return State::new(model, serial).with_answer(Answer::Accepted);
+                }
+                State::new(Model::Tpg361, 0).with_answer(Answer::NoModel)
+            }
+            Numbered::NoModel => State::new(Model::Tpg361, 0).with_answer(Answer::NoModel),
+        }
+    }
+
+    // A reading that is within its limits, of a channel from 0 on.
+    fn take(self, channel: u8, r: Reading) -> Outcome
+        ensures { λ x. ⌜ x ≡ handed (answer 0) (read self channel r) ⌝ }
+    {
+        let before = self.shared;
+        let port = self.port;
+        let shared = before.take(channel, r);
+        State { shared, port }.with_answer(Answer::Accepted)
+    }
+
+    // A reading of a channel, from 1 on.
+    pub fn reading(self, channel: u8, kind: u8, status: u8, mantissa: i32, exponent: i32) -> Outcome
+        ensures { λ r. ⌜ r ≡ readingCall self channel (record { kind = kind; status = status; value = record { mantissa = mantissa; exponent = exponent } }) ⌝ }
+    {
+        let shared = self.shared;
+        let model = shared.model;
+        let value = Value { mantissa, exponent };
+        let r = Reading {
+            kind,
+            status,
+            value,
+        };
+        if self.is_within() {
+            if (1 <= channel) & ((channel as usize) <= model.channels()) {
+                if r.is_within() {
+                    return self.take(channel - 1, r);
+                }
+                return self.with_answer(Answer::BadReading);
+            }
+            return self.with_answer(Answer::NoChannel);
+        }
+        self.with_answer(Answer::BrokenState)
+    }
+
+    // The tick of a box that has room for a line of the stream.
+    fn advance(self, out: &mut [u8]) -> Outcome
+        requires { ⌜ 64 ≤ length (now out) ⌝ }
+        ensures { λ r. ⌜ (r ≡ counted self) × (now (out .exit) ≡ over (tickText self) (now (out .entry))) ⌝ }
+    {
+        let shared = self.shared;
+        let before = self.port;
+        let t = before.tick();
+        let port = t.port;
+        let state = State { shared, port };
+        let mut written: usize = 0;
+        if t.due {
+            written = shared.stream_line().copy(out, 0);
+        }
+        Outcome {
+            answer: Answer::Accepted,
+            state,
+            taken: 0,
+            written,
+        }
+    }
+
+    // One tick of 100 ms.
+    pub fn tick(self, out: &mut [u8]) -> Outcome
+        ensures { λ r. ⌜ (r ≡ tickCall self (length (now (out .entry)))) × (now (out .exit) ≡ over (tickBytes self (length (now (out .entry)))) (now (out .entry))) ⌝ }
+    {
+        if self.is_within() {
+            if out.len() < State::ROOM {
+                return self.with_answer(Answer::ShortOutput);
+            }
+            return self.advance(out);
+        }
+        self.with_answer(Answer::BrokenState)
+    }
+
+    pub fn power_cycle(self) -> Outcome
+        ensures { λ r. ⌜ r ≡ cycleCall self ⌝ }
+    {
+        let before = self.shared;
+        let model = before.model;
+        let saved = before.saved;
+        if self.is_within() {
+            let shared = Shared::started(model, before.serial, saved);
+            let port = Port::fresh(model);
+            return State { shared, port }.with_answer(Answer::Accepted);
+        }
+        self.with_answer(Answer::BrokenState)
+    }
+}

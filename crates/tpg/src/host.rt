@@ -1,0 +1,136 @@
+// Bytes from the host: each one's step, and the run over them while there is room.
+ghost use mathlib.Core.Path.{_≡_};
+ghost use Prim.Native.Nat.{_+_, _≤_};
+ghost use lib.ListN.{length};
+ghost use Rattle.text.specs.Text.{empty, puts};
+ghost use Rattle.tpg.specs.Answers.{answer};
+ghost use Rattle.tpg.specs.Steps.{lineText, eventText, isSilent, acted, over, laidAt};
+ghost use Rattle.tpg.specs.Calls.{hosted, hostText, hostCall, hostBytes};
+use crate::State;
+use crate::answers::Answer;
+use crate::answers::Outcome;
+use lines::replies::end_line;
+use lines::verdict::Verdict;
+use ports::Event;
+use ports::Port;
+use shared::Shared;
+use text::Text;
+
+const ACK: u8 = 6;
+
+const NAK: u8 = 21;
+
+// The shared part after an event, and the place in the output behind what it sent.
+pub struct Turn {
+    pub shared: Shared,
+    pub at: usize,
+}
+
+fn line_text(v: Verdict) -> Text
+    ensures { λ r. ⌜ r ≡ puts empty (lineText v) ⌝ }
+{
+    match v {
+        Verdict::Asks(_) => end_line(Text::empty().put(ACK)),
+        Verdict::Writes(_, _) => end_line(Text::empty().put(ACK)),
+        Verdict::Refused(_) => end_line(Text::empty().put(NAK)),
+    }
+}
+
+// What is sent at an event.
+fn event_text(shared: Shared, event: Event) -> Text
+    ensures { λ r. ⌜ r ≡ puts empty (eventText shared event) ⌝ }
+{
+    match event {
+        Event::Silent => Text::empty(),
+        Event::Line(v) => line_text(v),
+        Event::Reply(m, error) => shared.reply(m, error),
+    }
+}
+
+fn act(shared: Shared, event: Event) -> Shared
+    ensures { λ r. ⌜ r ≡ acted shared event ⌝ }
+{
+    match event {
+        Event::Silent => shared,
+        Event::Line(v) => shared.heard(v),
+        Event::Reply(_, _) => shared,
+    }
+}
+
+// An event met: what it sends is laid into the output, and what it changes is changed.
+fn meet(shared: Shared, event: Event, out: &mut [u8], at: usize) -> Turn
+    requires { ⌜ at + 64 ≤ length (now out) ⌝ }
+    ensures { λ r. ⌜ (r ≡ record { shared = acted shared event; at = at + length (eventText shared event) }) × (now (out .exit) ≡ laidAt at (eventText shared event) (now (out .entry))) ⌝ }
+{
+    let place = event_text(shared, event).copy(out, at);
+    let after = act(shared, event);
+    Turn {
+        shared: after,
+        at: place,
+    }
+}
+
+fn is_silent(event: Event) -> bool
+    ensures { λ r. ⌜ r ≡ isSilent event ⌝ }
+{
+    match event {
+        Event::Silent => true,
+        Event::Line(_) => false,
+        Event::Reply(_, _) => false,
+    }
+}
+
+fn finished(shared: Shared, port: Port, taken: usize, written: usize) -> Outcome
+    ensures { λ r. ⌜ r ≡ record { answer = answer 0; state = record { shared = shared; port = port }; taken = taken; written = written } ⌝ }
+{
+    let state = State { shared, port };
+    Outcome {
+        answer: Answer::Accepted,
+        state,
+        taken,
+        written,
+    }
+}
+
+impl State {
+    // The bytes taken while there is room; the shared part is touched only where an event is met.
+    fn run(self, input: &[u8], out: &mut [u8]) -> Outcome
+        ensures { λ r. ⌜ (r ≡ hosted self (now (input .entry)) (length (now (out .entry)))) × (now (out .exit) ≡ over (hostText self (now (input .entry)) (length (now (out .entry)))) (now (out .entry))) ⌝ }
+    {
+        let mut shared = self.shared;
+        let mut port = self.port;
+        let mut taken: usize = 0;
+        let mut written: usize = 0;
+        while taken < input.len() {
+            if out.len() - written < State::ROOM {
+                return finished(shared, port, taken, written);
+            }
+            let model = shared.model;
+            let heard = port.byte(model, input[taken]);
+            let event = heard.event;
+            let next = heard.port;
+            port = next;
+            taken += 1;
+            if !is_silent(event) {
+                let turn = meet(shared, event, out, written);
+                let after = turn.shared;
+                shared = after;
+                written = turn.at;
+            }
+        }
+        finished(shared, port, taken, written)
+    }
+
+    // Bytes from the host.
+    pub fn host(self, input: &[u8], out: &mut [u8]) -> Outcome
+        ensures { λ r. ⌜ (r ≡ hostCall self (now (input .entry)) (length (now (out .entry)))) × (now (out .exit) ≡ over (hostBytes self (now (input .entry)) (length (now (out .entry)))) (now (out .entry))) ⌝ }
+    {
+        if self.is_within() {
+            if out.len() < State::ROOM {
+                return self.with_answer(Answer::ShortOutput);
+            }
+            return self.run(input, out);
+        }
+        self.with_answer(Answer::BrokenState)
+    }
+}

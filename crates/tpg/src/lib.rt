@@ -1,0 +1,39 @@
+// The box: its state, and the calls that take it by value and hand it back.
+ghost use mathlib.Core.Path.{_≡_};
+ghost use Rattle.tpg.specs.States.{stateWithin, freshBox};
+use ports::Port;
+use settings::model::Model;
+use shared::Shared;
+
+pub mod answers;
+pub mod calls;
+pub mod host;
+
+pub struct State {
+    pub shared: Shared,
+    pub port: Port,
+}
+
+impl State {
+    // the longest that anything sent can be: with less room free no byte is taken, and no tick
+    pub const ROOM: usize = 64;
+
+    // Whether a box can be in it.
+    pub fn is_within(self) -> bool
+        ensures { λ r. ⌜ r ≡ stateWithin self ⌝ }
+    {
+        let shared = self.shared;
+        let port = self.port;
+        let model = shared.model;
+        shared.is_within() & port.is_within(model)
+    }
+
+    // A box that nothing has happened to.
+    pub(crate) fn new(model: Model, serial: u32) -> State
+        ensures { λ r. ⌜ r ≡ freshBox model serial ⌝ }
+    {
+        let shared = Shared::started(model, serial, model.defaults());
+        let port = Port::fresh(model);
+        State { shared, port }
+    }
+}

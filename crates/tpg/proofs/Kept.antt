@@ -1,8 +1,8 @@
 -- Every call keeps the limits of the state, and a fresh box has them.
-use Prim.Native.Nat.{ℕ, _+_, _-_, _≤_, _<_}
-use mathlib.Core.Path.{_≡_, refl, sym, ap, _∙_, subst}
+use Prim.Native.Nat.{ℕ, _-_}
+use mathlib.Core.Path.{_≡_, refl, sym, subst}
 use mathlib.Core.List.{List, [], _∷_}
-use mathlib.Core.Bool.{Bool, true, false, cond, _&&_}
+use mathlib.Core.Bool.{true, cond}
 use native.Mathlib.Omega.{arith}
 use lib.Dec.{leb}
 use Rattle.gauges.specs.Readings.{withinLimits}
@@ -14,12 +14,10 @@ use Rattle.settings.specs.declared.model.Model.the-variants.{Tpg361}
 use Rattle.settings.specs.declared.model.Numbered.{Numbered}
 use Rattle.settings.specs.declared.model.Numbered.the-variants.{One, NoModel}
 use Rattle.settings.proofs.Keeping.{defaults-within, defaults-shaped}
-use Rattle.lines.specs.Judging.{judged}
 use Rattle.lines.specs.declared.verdict.Verdict.{Verdict}
 use Rattle.lines.specs.declared.verdict.Verdict.the-variants.{Asks, Writes, Refused}
 use Rattle.ports.specs.Line.{held}
-use Rattle.ports.specs.Limits.{portWithin, Eighty}
-use Rattle.ports.specs.Stream.{ticked}
+use Rattle.ports.specs.Limits.{portWithin}
 use Rattle.ports.specs.declared.Event.{Event}
 use Rattle.ports.specs.declared.Event.the-variants.{Silent, Line, Reply}
 use Rattle.ports.proofs.Kept as ports

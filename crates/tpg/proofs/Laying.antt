@@ -1,11 +1,11 @@
 -- Bytes laid into the lent output, one reply behind the other.
 use Prim.Native.Nat.{ℕ, _+_, _≤_}
-use mathlib.Core.Path.{_≡_, refl, sym, ap, _∙_}
-use mathlib.Core.List.{List, [], _∷_, _++_, append-assoc, append-nil}
+use mathlib.Core.Path.{_≡_, sym}
+use mathlib.Core.List.{List, [], _++_, append-nil}
 use native.Mathlib.Omega.{arith}
 use native.Mathlib.Nat.{zero-add, add-zero}
 use lib.ListN.{length, take, drop, length-append, length-drop, take-append-drop}
-use lib.Seq.{take-append-seam, drop-append-add, drop-drop, paste}
+use lib.Seq.{take-append-seam, drop-append-add, drop-drop}
 use Rattle.text.specs.Text.{empty, puts, laid, after}
 use Rattle.text.specs.declared.Text.{Text}
 use Rattle.text.proofs.Texts.{said, lands-whole, written}

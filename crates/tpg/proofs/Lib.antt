@@ -1,5 +1,6 @@
 pub mod Laying
-pub mod Runs
 pub mod Sending
+pub mod Runs
+pub mod Deciding
 pub mod Refusals
 pub mod Kept

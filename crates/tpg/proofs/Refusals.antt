@@ -1,17 +1,14 @@
 -- What is refused changes nothing: a call hands its state back and sends nothing, a line leaves all but the port as it was.
 use Prim.Native.Nat.{ℕ, _-_}
-use mathlib.Core.Path.{_≡_, refl, sym, ap, _∙_}
+use mathlib.Core.Path.{_≡_, refl, ap}
 use mathlib.Core.List.{List, [], _∷_, map}
 use mathlib.Core.Bool.{Bool, true, false, cond, _&&_}
 use lib.Dec.{leb}
 use Rattle.gauges.specs.Readings.{withinLimits}
 use Rattle.gauges.specs.declared.reading.Reading.{Reading}
-use Rattle.lines.specs.Judging.{judged}
 use Rattle.lines.specs.declared.verdict.Fault.{Fault}
 use Rattle.lines.specs.declared.verdict.Verdict.the-variants.{Refused}
-use Rattle.ports.specs.declared.Event.{Event}
 use Rattle.ports.specs.declared.Event.the-variants.{Line}
-use Rattle.numbers.proofs.Cases.{never}
 use Rattle.tpg.specs.Answers.{number, table, answer, handed}
 use Rattle.tpg.specs.States.{stateWithin, cycled}
 use Rattle.tpg.specs.Steps.{acted, hearing, next, over}

@@ -1,5 +1,5 @@
 -- The run over the host's bytes, byte by byte.
-use Prim.Native.Nat.{ℕ, zero, suc, _+_, _-_, _≤_, _<_}
+use Prim.Native.Nat.{ℕ, suc, _+_, _-_, _≤_, _<_}
 use mathlib.Core.Path.{_≡_, refl, sym, ap, _∙_}
 use mathlib.Core.List.{List, [], _∷_, _++_, append-assoc, append-nil}
 use native.Mathlib.Omega.{arith}
@@ -8,14 +8,19 @@ use native.Mathlib.Numerals.{add-one}
 use borrow.Author.Tests.{le-leb, lt-leb}
 use lib.ListN.{length, getD, take, drop, length-append, drop-of-length-le}
 use lib.Seq.{take-suc, drop-cons}
+use mathlib.Core.Bool.{false}
+use Rattle.numbers.proofs.Cases.{never}
+use Rattle.ports.specs.declared.Event.{Event}
+use Rattle.ports.specs.declared.Event.the-variants.{Silent, Line, Reply}
+use Rattle.ports.specs.declared.Heard.{Heard}
 use Rattle.ports.specs.declared.Port.{Port}
 use Rattle.shared.specs.declared.Shared.{Shared}
 use Rattle.tpg.specs.Answers.{answer}
-use Rattle.tpg.specs.Steps.{next, sent, after, said, taken, over, laidAt}
-use Rattle.tpg.specs.Calls.{takenBytes, hostText, hosted}
+use Rattle.tpg.specs.Steps.{eventText, isLoud, acted, hearing, next, sent, after, said, taken, over, laidAt}
+use Rattle.tpg.specs.Calls.{hostText, hosted}
 use Rattle.tpg.specs.declared.State.{State}
-use Rattle.tpg.specs.declared.answers.Outcome.{Outcome}
-use Rattle.tpg.proofs.Laying.{over-more}
+use Rattle.tpg.proofs.Laying.{over-more, over-length, laid-nothing}
+use Rattle.tpg.proofs.Sending.{sent-length}
 
 pub after-append : (xs ys : List ℕ) (s : State) → after s (xs ++ ys) ≡ after (after s xs) ys
 unfolding after
@@ -56,6 +61,12 @@ module _ (s : State) where
   unfolding taken
   taken-end l i f h = rw (drop-of-length-le l {i = i} h)
 
+nothing-done : (s : Shared) (e : Event) → isLoud e ≡ false → (acted s e ≡ s) × (eventText s e ≡ [])
+unfolding eventText
+nothing-done s Silent q = (refl, refl)
+nothing-done s (Line v) q = never (cc)
+nothing-done s (Reply m error) q = never (cc)
+
 -- where a run stands after t bytes that sent w
 pub record Going (s : State) (input out₀ : List ℕ) (shared : Shared) (port : Port) (out : List ℕ) (t w : ℕ) : Type 0 where
   pub low : t ≤ length input
@@ -65,46 +76,65 @@ pub record Going (s : State) (input out₀ : List ℕ) (shared : Shared) (port :
   pub inside : w ≤ length out₀
   pub left : taken s input (length out₀) ≡ t + taken (record { shared = shared; port = port }) (drop t input) (length out₀ - w)
 
-module _ (s : State) (input out₀ : List ℕ) where
-  pub start : Going s input out₀ (s .shared) (s .port) out₀ 0 0
-  unfolding after said over
-  start = record {
-    low = omega arith;
-    state = refl;
-    bytes = refl;
-    count = refl;
-    inside = omega arith;
-    left = let e : length out₀ - 0 ≡ length out₀ = omega arith in rw (e, zero-add (taken s input (length out₀)));
-  }
+pub start : (s : State) (input out₀ : List ℕ) → Going s input out₀ (s .shared) (s .port) out₀ 0 0
+unfolding after said over
+start s input out₀ = record {
+  low = omega arith;
+  state = refl;
+  bytes = refl;
+  count = refl;
+  inside = omega arith;
+  left = let e : length out₀ - 0 ≡ length out₀ = omega arith in rw (e, zero-add (taken s input (length out₀)));
+}
 
-  module _ (shared : Shared) (port : Port) (out : List ℕ) (t w : ℕ) (g : Going s input out₀ shared port out t w) where
-    abbrev now : State
-    now = record { shared = shared; port = port }
+module _ {s : State} {input out₀ : List ℕ} {shared : Shared} {port : Port} {out : List ℕ} {t w : ℕ} (g : Going s input out₀ shared port out t w) where
+  abbrev now : State
+  now = record { shared = shared; port = port }
 
-    abbrev byte : ℕ
-    byte = getD input t 0
+  abbrev byte : ℕ
+  byte = getD input t 0
 
-    pub step : (shared' : Shared) (port' : Port) (out' : List ℕ) (w' : ℕ) → t < length input → w + 64 ≤ length out₀ → length (sent now byte) ≤ 64
-        → record { shared = shared'; port = port' } ≡ next now byte → out' ≡ laidAt w (sent now byte) out → w' ≡ w + length (sent now byte)
-        → Going s input out₀ shared' port' out' (t + 1) w'
-    step shared' port' out' w' more room short state bytes count =
-        let was : now ≡ after s (take t input) = g .state in
-        let all : said s (take (t + 1) input) ≡ said s (take t input) ++ sent now byte =
-        said-next s input t more ∙ ap (λ (x : State). said s (take t input) ++ sent x byte) (sym was) in
-        let f : (length out₀ - w) - length (sent now byte) ≡ length out₀ - w' = omega (arith, count) in
-        record {
-          low = omega arith;
-          state = state ∙ ap (λ (x : State). next x byte) was ∙ sym (after-next s input t more);
-          bytes = bytes ∙ rw (g .bytes, g .count) (over-more (said s (take t input)) (sent now byte) out₀) ∙ ap (λ (x : List ℕ). over x out₀) (sym all);
-          count = rw all (count ∙ rw (g .count) (sym (length-append (said s (take t input)) (sent now byte))));
-          inside = omega (arith, count);
-          left = g .left ∙ rw (taken-more now input t (length out₀ - w) more (omega arith), f, ← state) (omega arith);
-        }
+  pub step : (shared' : Shared) (port' : Port) (out' : List ℕ) (w' : ℕ) → t < length input → w + 64 ≤ length out₀ → length (sent now byte) ≤ 64
+      → record { shared = shared'; port = port' } ≡ next now byte → out' ≡ laidAt w (sent now byte) out → w' ≡ w + length (sent now byte)
+      → Going s input out₀ shared' port' out' (t + 1) w'
+  step shared' port' out' w' more room short state bytes count =
+      let was : now ≡ after s (take t input) = g .state in
+      let all : said s (take (t + 1) input) ≡ said s (take t input) ++ sent now byte =
+      said-next s input t more ∙ ap (λ (x : State). said s (take t input) ++ sent x byte) (sym was) in
+      let f : (length out₀ - w) - length (sent now byte) ≡ length out₀ - w' = omega (arith, count) in
+      record {
+        low = omega arith;
+        state = state ∙ ap (λ (x : State). next x byte) was ∙ sym (after-next s input t more);
+        bytes = bytes ∙ rw (g .bytes, g .count) (over-more (said s (take t input)) (sent now byte) out₀) ∙ ap (λ (x : List ℕ). over x out₀) (sym all);
+        count = rw all (count ∙ rw (g .count) (sym (length-append (said s (take t input)) (sent now byte))));
+        inside = omega (arith, count);
+        left = g .left ∙ rw (taken-more now input t (length out₀ - w) more (omega arith), f, ← state) (omega arith);
+      }
 
-    module _ (none : taken now (drop t input) (length out₀ - w) ≡ 0) where
-      all-taken : taken s input (length out₀) ≡ t
-      all-taken = g .left ∙ rw none (add-zero t)
+  pub same-length : length out ≡ length out₀
+  same-length = rw (g .bytes) (over-length (said s (take t input)) out₀ (omega (arith, g .count, g .inside)))
 
-      pub ended : (record { answer = answer 0; state = now; taken = t; written = w } ≡ hosted s input (length out₀)) × (out ≡ over (hostText s input (length out₀)) out₀)
-      unfolding hosted
-      ended = rw all-taken ((λ i. record { answer = answer 0; state = g .state i; taken = t; written = g .count i }), g .bytes)
+  -- a byte that was heard, and the event that was met
+  module _ (h : Heard) (more : t < length input) (room : w + 64 ≤ length out₀) (e : h ≡ hearing now byte) where
+    pub loud : (shared' : Shared) (out' : List ℕ) (w' : ℕ) → shared' ≡ acted shared (h .event) → out' ≡ laidAt w (eventText shared (h .event)) out
+        → w' ≡ w + length (eventText shared (h .event)) → Going s input out₀ shared' (h .port) out' (t + 1) w'
+    unfolding next sent
+    loud shared' out' w' state bytes count =
+        let text : eventText shared (h .event) ≡ sent now byte = ap (λ (x : Heard). eventText shared (x .event)) e in
+        let after : shared' ≡ acted shared (hearing now byte .event) = state ∙ ap (λ (x : Heard). acted shared (x .event)) e in
+        step shared' (h .port) out' w' more room (sent-length now byte) (λ i. record { shared = after i; port = e i .port })
+        (bytes ∙ ap (λ (x : List ℕ). laidAt w x out) text) (count ∙ ap (λ (x : List ℕ). w + length x) text)
+
+    -- where nothing is to be done the shared part and the output are not touched
+    pub silent : isLoud (h .event) ≡ false → Going s input out₀ shared (h .port) out (t + 1) w
+    silent q =
+        let n = nothing-done shared (h .event) q in
+        loud shared out w (sym (n .0)) (rw (n .1) (laid-nothing w out)) (rw (n .1) (sym (add-zero w)))
+
+  module _ (none : taken now (drop t input) (length out₀ - w) ≡ 0) where
+    all-taken : taken s input (length out₀) ≡ t
+    all-taken = g .left ∙ rw none (add-zero t)
+
+    pub ended : (record { answer = answer 0; state = now; taken = t; written = w } ≡ hosted s input (length out₀)) × (out ≡ over (hostText s input (length out₀)) out₀)
+    unfolding hosted
+    ended = rw all-taken ((λ i. record { answer = answer 0; state = g .state i; taken = t; written = g .count i }), g .bytes)

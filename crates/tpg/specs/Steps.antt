@@ -28,11 +28,11 @@ eventText s Silent = []
 eventText s (Line v) = lineText v
 eventText s (Reply m error) = replyText s error m
 
--- whether nothing is to be done
-abbrev pub isSilent : Event → Bool
-isSilent Silent = true
-isSilent (Line v) = false
-isSilent (Reply m error) = false
+-- there is something to be done
+abbrev pub isLoud : Event → Bool
+isLoud Silent = false
+isLoud (Line v) = true
+isLoud (Reply m error) = true
 
 -- what an event does to the shared part: only a line can change it
 abbrev pub acted : Shared → Event → Shared

@@ -4,7 +4,7 @@ ghost use Prim.Native.Nat.{_+_, _≤_};
 ghost use lib.ListN.{length};
 ghost use Rattle.text.specs.Text.{empty, puts};
 ghost use Rattle.tpg.specs.Answers.{answer};
-ghost use Rattle.tpg.specs.Steps.{lineText, eventText, isSilent, acted, over, laidAt};
+ghost use Rattle.tpg.specs.Steps.{lineText, eventText, isLoud, acted, over, laidAt};
 ghost use Rattle.tpg.specs.Calls.{hosted, hostText, hostCall, hostBytes};
 use crate::State;
 use crate::answers::Answer;
@@ -70,13 +70,14 @@ fn meet(shared: Shared, event: Event, out: &mut [u8], at: usize) -> Turn
     }
 }
 
-fn is_silent(event: Event) -> bool
-    ensures { λ r. ⌜ r ≡ isSilent event ⌝ }
+// Whether an event is to be met at all.
+fn is_loud(event: Event) -> bool
+    ensures { λ r. ⌜ r ≡ isLoud event ⌝ }
 {
     match event {
-        Event::Silent => true,
-        Event::Line(_) => false,
-        Event::Reply(_, _) => false,
+        Event::Silent => false,
+        Event::Line(_) => true,
+        Event::Reply(_, _) => true,
     }
 }
 
@@ -111,7 +112,7 @@ impl State {
             let next = heard.port;
             port = next;
             taken += 1;
-            if !is_silent(event) {
+            if is_loud(event) {
                 let turn = meet(shared, event, out, written);
                 let after = turn.shared;
                 shared = after;

@@ -1,28 +1,19 @@
 use borrow.Author.Needs.{needs}
 use Rattle.lines.proofs.word.write_word.Statement.{statement}
 use Rattle.lines.proofs.word.write_word.Tie as tie
-use Rattle.lines.proofs.word.write_word.Reads as reads
-use Rattle.lines.proofs.word.write_word.Lts as lts
-use Rattle.lines.proofs.word.write_digit.Reads as write-digit-reads
-use Rattle.text.proofs.Text.put.Reads as put-reads
 
--- src/word.rt:59:25
 put-requires : tie.Need-put-requires
 put-requires c κs = search needs
 
--- src/word.rt:59:9
 write-digit-requires : tie.Need-write-digit-requires
 write-digit-requires c κs = search needs
 
--- src/word.rt:60:17
 write-digit-requires-2 : tie.Need-write-digit-requires-2
 write-digit-requires-2 c κs = search needs
 
--- src/word.rt:60:5
 write-digit-requires-3 : tie.Need-write-digit-requires-3
 write-digit-requires-3 c κs = search needs
 
--- src/word.rt:56:1
 returns : tie.Need-returns
 returns c = rw (c .write-digit3 .ensures, c .before .write-digit2 .ensures, c .before .before .write-digit .ensures, c .before .before .before .put .ensures)
 

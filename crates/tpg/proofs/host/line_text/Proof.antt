@@ -1,70 +1,49 @@
-
 use borrow.Author.Needs.{needs}
 use Rattle.tpg.proofs.host.line_text.Statement.{statement}
 use Rattle.tpg.proofs.host.line_text.Tie as tie
-use Rattle.tpg.proofs.host.line_text.Reads as reads
-use Rattle.tpg.proofs.host.line_text.Lts as lts
-use Rattle.lines.proofs.replies.end_line.Reads as end-line-reads
-use Rattle.text.proofs.Text.empty.Reads as empty-reads
-use Rattle.text.proofs.Text.put.Reads as put-reads
 
--- src/host.rt:33:38
 enum-told : tie.Need-enum-told
 enum-told c = search needs
 
--- src/host.rt:33:38
 empty-requires : tie.Need-empty-requires
 empty-requires c κs = search needs
 
--- src/host.rt:33:38
 put-requires : tie.Need-put-requires
 put-requires c κs = search needs
 
--- src/host.rt:33:29
 end-line-requires : tie.Need-end-line-requires
 end-line-requires c κs = search needs
 
--- src/host.rt:34:43
 enum-told-2 : tie.Need-enum-told-2
 enum-told-2 c = search needs
 
--- src/host.rt:34:43
 empty-requires-2 : tie.Need-empty-requires-2
 empty-requires-2 c κs = search needs
 
--- src/host.rt:34:43
 put-requires-2 : tie.Need-put-requires-2
 put-requires-2 c κs = search needs
 
--- src/host.rt:34:34
 end-line-requires-2 : tie.Need-end-line-requires-2
 end-line-requires-2 c κs = search needs
 
--- src/host.rt:35:41
 enum-told-3 : tie.Need-enum-told-3
 enum-told-3 c = search needs
 
--- src/host.rt:35:41
 empty-requires-3 : tie.Need-empty-requires-3
 empty-requires-3 c κs = search needs
 
--- src/host.rt:35:41
 put-requires-3 : tie.Need-put-requires-3
 put-requires-3 c κs = search needs
 
--- src/host.rt:35:32
 end-line-requires-3 : tie.Need-end-line-requires-3
 end-line-requires-3 c κs = search needs
 
--- src/host.rt:29:1
 returns : tie.Need-returns
 returns c = rw (c .end-line .ensures, c .before .put .ensures, c .before .before .empty .ensures, c .before .before .before .enum-told .given .1)
 
--- src/host.rt:29:1
 returns-2 : tie.Need-returns-2
 returns-2 c = rw (c .end-line2 .ensures, c .before .put2 .ensures, c .before .before .empty2 .ensures, c .before .before .before .enum-told2 .given .1)
 
--- src/host.rt:29:1
 returns-3 : tie.Need-returns-3
 returns-3 c = rw (c .end-line3 .ensures, c .before .put3 .ensures, c .before .before .empty3 .ensures, c .before .before .before .enum-told3 .given .1)
 

@@ -1,18 +1,13 @@
 use borrow.Author.Tests.{eq-eqb, ne-eqb}
 use Rattle.settings.proofs.model.Model.numbered.Statement.{statement}
 use Rattle.settings.proofs.model.Model.numbered.Tie as tie
-use Rattle.settings.proofs.model.Model.numbered.Reads as reads
-use Rattle.settings.proofs.model.Model.numbered.Lts as lts
 
--- src/model.rt:40:13
 returns : tie.Need-returns
 returns c = rw (eq-eqb _ _ (c .if1 .taken))
 
--- src/model.rt:43:13
 returns-2 : tie.Need-returns-2
 returns-2 c = rw (ne-eqb _ _ (c .before .if1 .left), eq-eqb _ _ (c .if2 .taken))
 
--- src/model.rt:36:5
 returns-3 : tie.Need-returns-3
 returns-3 c = rw (ne-eqb _ _ (c .before .if1 .left), ne-eqb _ _ (c .if2 .left))
 

@@ -2,7 +2,7 @@
 use Prim.Native.Nat.{ℕ, zero, suc, _+_, _≤_, _<_}
 use mathlib.Core.Path.{_≡_, refl, sym, ap, subst}
 use mathlib.Core.List.{List, [], _∷_, _++_}
-use mathlib.Core.Bool.{Bool, true, false, cond, _&&_}
+use mathlib.Core.Bool.{Bool, true, false, cond, _&&_, _||_}
 use mathlib.Core.Logic.{_≢_}
 use native.Mathlib.Omega.{arith}
 use native.Mathlib.Numerals.{add-one}
@@ -47,7 +47,7 @@ use Rattle.ports.specs.declared.Event.the-variants.{Silent, Line, Reply}
 use Rattle.ports.specs.declared.Heard.{Heard}
 use Rattle.ports.specs.declared.Ticked.{Ticked}
 use Rattle.ports.specs.declared.hearing.ByteKind.{ByteKind}
-use Rattle.ports.specs.declared.hearing.ByteKind.the-variants.{Cr, Lf, Space, Etx, Enq, Character, Spoiling}
+use Rattle.ports.specs.declared.hearing.ByteKind.the-variants.{Cr, Dropped, Etx, Enq, Character, Spoiling}
 
 -- ---- a byte and a tick, by what they come to
 
@@ -108,8 +108,7 @@ replied-long p m e = cond-cases Long (isErr m) (withChoice p (Chosen m) noError)
 kind-long : (model : Model) (k : ByteKind) (p : Port) (b : ℕ) → Long p → Long (byKind model k p b .port)
 unfolding byKind
 kind-long model Cr p b e = ap length (concluded-line (withMark (emptied p) true) (judged model (held p)))
-kind-long model Lf p b e = e
-kind-long model Space p b e = e
+kind-long model Dropped p b e = e
 kind-long model Etx p b e = refl
 kind-long model Enq p b e = asked-by (λ (h : Heard). Long (h .port)) p refl (λ m _. replied-long p m e)
 kind-long model Character p b e = grown-by Long p b e refl (λ _ _. rw (length-set (p .line) (p .len) b) e)
@@ -185,11 +184,10 @@ character-range : (b : ℕ) → kindOf b ≡ Character → inRange 33 126 b ≡ 
 unfolding kindOf
 character-range b e =
     let e1 = other-kind (eqb b 13) Cr _ (λ z. never (cc)) e in
-    let e2 = other-kind (eqb b 10) Lf _ (λ z. never (cc)) e1 in
+    let e2 = other-kind (eqb b 10 || eqb b 32) Dropped _ (λ z. never (cc)) e1 in
     let e3 = other-kind (eqb b 3) Etx _ (λ z. never (cc)) e2 in
     let e4 = other-kind (eqb b 5) Enq _ (λ z. never (cc)) e3 in
-    let e5 = other-kind (eqb b 32) Space _ (λ z. never (cc)) e4 in
-    let t = and-true (ltb 32 b) (ltb b 127) (character-test (ltb 32 b && ltb b 127) e5) in
+    let t = and-true (ltb 32 b) (ltb b 127) (character-test (ltb 32 b && ltb b 127) e4) in
     let h : b < 127 = ltb-true b 127 (t .1) in
     rw (t .0, le-leb b 126 (omega arith))
 
@@ -260,8 +258,7 @@ replied-parts model p m e w =
 kind-parts : (model : Model) (k : ByteKind) (p : Port) (b : ℕ) → kindOf b ≡ k → Long p → Parts model p → Parts model (byKind model k p b .port)
 unfolding byKind
 kind-parts model Cr p b c e w = concluded-parts model (withMark (emptied p) true) (held p) (judged model (held p)) refl (with-mark (cleared w false) true)
-kind-parts model Lf p b c e w = w
-kind-parts model Space p b c e w = w
+kind-parts model Dropped p b c e w = w
 kind-parts model Etx p b c e w = with-choice (cleared w false) Nothing (p .error) refl
 kind-parts model Enq p b c e w =
     asked-by (λ (h : Heard). Parts model (h .port)) p (with-choice (cleared w false) Nothing noError refl) (λ m s. replied-parts model p m s w)
@@ -297,8 +294,7 @@ module _ (Q : Event → Type 0) (model : Model) (p : Port) (b : ℕ) (silent : Q
   kind-event : (k : ByteKind) → Q (byKind model k (stopped (withMark p false)) b .event)
   unfolding byKind
   kind-event Cr = line
-  kind-event Lf = silent
-  kind-event Space = silent
+  kind-event Dropped = silent
   kind-event Etx = silent
   kind-event Enq = asked-by (λ (h : Heard). Q (h .event)) (stopped (withMark p false)) word reply
   kind-event Character = silent

@@ -1,6 +1,6 @@
 -- One byte of the host (01, "Bytes from the host").
 use Prim.Native.Nat.{ℕ}
-use mathlib.Core.Bool.{Bool, true, false, cond, _&&_}
+use mathlib.Core.Bool.{Bool, true, false, cond, _&&_, _||_}
 use lib.Dec.{eqb, ltb}
 use Rattle.settings.specs.Models.{powerOnMode}
 use Rattle.settings.specs.Mnemonics.{isErr}
@@ -11,6 +11,7 @@ use Rattle.settings.specs.declared.mnemonic.Mnemonic.the-variants.{Setting as O
 use Rattle.lines.specs.Words.{noError, gathered}
 use Rattle.lines.specs.Judging.{judged}
 use Rattle.lines.specs.declared.word.Word.{Word}
+use Rattle.lines.specs.declared.verdict.Fault.{Fault}
 use Rattle.lines.specs.declared.verdict.Verdict.{Verdict}
 use Rattle.lines.specs.declared.verdict.Verdict.the-variants.{Asks, Writes, Refused}
 use Rattle.ports.specs.Line.{blank, emptied, spoilt, grown, held, isEmpty}
@@ -21,17 +22,16 @@ use Rattle.ports.specs.declared.Selection.the-variants.{Nothing, Of as C
 use Rattle.ports.specs.declared.Event.the-variants.{Silent, Line, Reply}
 use Rattle.ports.specs.declared.Heard.{Heard}
 use Rattle.ports.specs.declared.hearing.ByteKind.{ByteKind}
-use Rattle.ports.specs.declared.hearing.ByteKind.the-variants.{Cr, Lf, Space, Etx, Enq, Character, Spoiling}
+use Rattle.ports.specs.declared.hearing.ByteKind.the-variants.{Cr, Dropped, Etx, Enq, Character, Spoiling}
 
--- CR, LF, ETX, ENQ, space; "a byte below 32 other than CR, LF, ETX and ENQ, or one of 127 and above, makes it bad"
+-- CR, LF or space, ETX, ENQ; "a byte below 32 other than CR, LF, ETX and ENQ, or one of 127 and above, makes it bad"
 unfoldable pub kindOf : ℕ → ByteKind
 kindOf b =
     cond (eqb b 13) Cr
-    (cond (eqb b 10) Lf
+    (cond (eqb b 10 || eqb b 32) Dropped
     (cond (eqb b 3) Etx
     (cond (eqb b 5) Enq
-    (cond (eqb b 32) Space
-    (cond (ltb 32 b && ltb b 127) Character Spoiling)))))
+    (cond (ltb 32 b && ltb b 127) Character Spoiling))))
 
 -- "no line, selection, error or reading, mode 1 streaming"; an LF "after a fresh box or a power cycle, is another LF"
 abbrev pub freshPort : Model → Port
@@ -80,19 +80,31 @@ selected (Asked q) = Chosen (Asked q)
 selected Com = Nothing
 selected Sav = Nothing
 
--- "An accepted line .. selects its mnemonic", COM "starts" the stream; "A refused one .. sets its error digit and clears the selection."
+-- "An accepted line .. selects its mnemonic"
+abbrev pub accepted : Port → Mnemonic → Port
+accepted p m = withChoice p (selected m) (p .error)
+
+-- "A refused one .. sets its error digit and clears the selection."
+abbrev pub refused : Port → Fault → Port
+refused p x = withChoice p Nothing (gathered (p .error) x)
+
+-- a line that asks, one that writes, which can begin the stream, one that is refused
 unfoldable pub concluded : Port → Verdict → Port
-concluded p (Asks m) = withChoice p (selected m) (p .error)
-concluded p (Writes m r) = begun (withChoice p (selected m) (p .error)) m r
-concluded p (Refused x) = withChoice p Nothing (gathered (p .error) x)
+concluded p (Asks m) = accepted p m
+concluded p (Writes m r) = begun (accepted p m) m r
+concluded p (Refused x) = refused p x
 
 -- "CR ends a line."
 abbrev pub lineEnd : Model → Port → Heard
 lineEnd model p = let v = judged model (held p) in record { port = concluded (withMark (emptied p) true) v; event = Line v }
 
+-- "ETX empties the line, a bad one too, clears the selection"; an ENQ "drops line and selection"
+abbrev pub dropped : Port → Word → Port
+dropped p error = withChoice (emptied p) Nothing error
+
 -- "it drops line and selection and sends the error word"; "then it is 0000"
 abbrev pub worded : Port → Heard
-worded p = record { port = withChoice (emptied p) Nothing noError; event = Reply (Asked Err) (p .error) }
+worded p = record { port = dropped p noError; event = Reply (Asked Err) (p .error) }
 
 -- "sends the selected mnemonic's reply, as often as asked"; the error word is sent "through ERR" too
 abbrev pub replied : Port → Mnemonic → Heard
@@ -111,12 +123,11 @@ asked p = cond (isEmpty p) (answered p (p .selection)) (worded p)
 abbrev pub quiet : Port → Heard
 quiet p = record { port = p; event = Silent }
 
--- "Any other LF, and every space, is dropped. ETX empties the line .., clears the selection and sends nothing; the error word stays."
+-- "Any other LF, and every space, is dropped."; ETX "sends nothing; the error word stays"
 unfoldable pub byKind : Model → ByteKind → Port → ℕ → Heard
 byKind model Cr p b = lineEnd model p
-byKind model Lf p b = quiet p
-byKind model Space p b = quiet p
-byKind model Etx p b = quiet (withChoice (emptied p) Nothing (p .error))
+byKind model Dropped p b = quiet p
+byKind model Etx p b = quiet (dropped p (p .error))
 byKind model Enq p b = asked p
 byKind model Character p b = quiet (grown p b)
 byKind model Spoiling p b = quiet (spoilt p)

@@ -1,11 +1,12 @@
 // One byte of the host: what it does to the port, and what it makes the box do.
 ghost use mathlib.Core.Path.{_≡_};
-ghost use Rattle.ports.specs.Hearing.{kindOf, freshPort, withMark, withChoice, selected, concluded, lineEnd, worded, replied, asked, byKind, heard};
+ghost use Rattle.ports.specs.Hearing.{kindOf, freshPort, withMark, withChoice, selected, accepted, refused, concluded, lineEnd, dropped, worded, replied, asked, quiet, byKind, heard};
 use crate::Event;
 use crate::Heard;
 use crate::Port;
 use crate::Selection;
 use crate::stream::interval_of;
+use lines::verdict::Fault;
 use lines::verdict::Verdict;
 use lines::word::Word;
 use settings::mnemonic::Mnemonic;
@@ -26,8 +27,8 @@ const DEL: u8 = 127;
 
 pub enum ByteKind {
     Cr,
-    Lf,
-    Space,
+    // an LF that is not straight after a CR, and a space
+    Dropped,
     Etx,
     Enq,
     Character,
@@ -40,17 +41,14 @@ fn kind_of(b: u8) -> ByteKind
     if b == CR {
         return ByteKind::Cr;
     }
-    if b == LF {
-        return ByteKind::Lf;
+    if (b == LF) | (b == SPACE) {
+        return ByteKind::Dropped;
     }
     if b == ETX {
         return ByteKind::Etx;
     }
     if b == ENQ {
         return ByteKind::Enq;
-    }
-    if b == SPACE {
-        return ByteKind::Space;
     }
     if (SPACE < b) & (b < DEL) {
         return ByteKind::Character;
@@ -112,15 +110,28 @@ impl Port {
         }
     }
 
+    fn accepted(self, m: Mnemonic) -> Port
+        ensures { λ r. ⌜ r ≡ accepted self m ⌝ }
+    {
+        let error = self.error;
+        self.with_choice(selects(m), error)
+    }
+
+    fn refused(self, x: Fault) -> Port
+        ensures { λ r. ⌜ r ≡ refused self x ⌝ }
+    {
+        let error = self.error;
+        self.with_choice(Selection::Nothing, error.with(x))
+    }
+
     // The port after a line that was judged.
     fn concluded(self, v: Verdict) -> Port
         ensures { λ r. ⌜ r ≡ concluded self v ⌝ }
     {
-        let error = self.error;
         match v {
-            Verdict::Asks(m) => self.with_choice(selects(m), error),
-            Verdict::Writes(m, r) => self.with_choice(selects(m), error).begun(m, r),
-            Verdict::Refused(x) => self.with_choice(Selection::Nothing, error.with(x)),
+            Verdict::Asks(m) => self.accepted(m),
+            Verdict::Writes(m, r) => self.accepted(m).begun(m, r),
+            Verdict::Refused(x) => self.refused(x),
         }
     }
 
@@ -135,12 +146,19 @@ impl Port {
         }
     }
 
+    // Line and selection dropped.
+    fn dropped(self, error: Word) -> Port
+        ensures { λ r. ⌜ r ≡ dropped self error ⌝ }
+    {
+        self.emptied().with_choice(Selection::Nothing, error)
+    }
+
     // An ENQ that the error word answers.
     fn worded(self) -> Heard
         ensures { λ r. ⌜ r ≡ worded self ⌝ }
     {
         let error = self.error;
-        let port = self.emptied().with_choice(Selection::Nothing, Word::none());
+        let port = self.dropped(Word::none());
         Heard {
             port,
             event: Event::Reply(Mnemonic::Query(Query::Err), error),
@@ -174,28 +192,27 @@ impl Port {
         }
     }
 
+    // Nothing is sent.
+    fn quiet(self) -> Heard
+        ensures { λ r. ⌜ r ≡ quiet self ⌝ }
+    {
+        Heard {
+            port: self,
+            event: Event::Silent,
+        }
+    }
+
     fn by_kind(self, model: Model, kind: ByteKind, b: u8) -> Heard
         ensures { λ r. ⌜ r ≡ byKind model kind self b ⌝ }
     {
-        let event = Event::Silent;
+        let error = self.error;
         match kind {
             ByteKind::Cr => self.line_end(model),
-            ByteKind::Lf => Heard { port: self, event },
-            ByteKind::Space => Heard { port: self, event },
-            ByteKind::Etx => {
-                let error = self.error;
-                let port = self.emptied().with_choice(Selection::Nothing, error);
-                Heard { port, event }
-            }
+            ByteKind::Dropped => self.quiet(),
+            ByteKind::Etx => self.dropped(error).quiet(),
             ByteKind::Enq => self.asked(),
-            ByteKind::Character => {
-                let port = self.grown(b);
-                Heard { port, event }
-            }
-            ByteKind::Spoiling => {
-                let port = self.spoilt();
-                Heard { port, event }
-            }
+            ByteKind::Character => self.grown(b).quiet(),
+            ByteKind::Spoiling => self.spoilt().quiet(),
         }
     }
 
@@ -205,10 +222,7 @@ impl Port {
     {
         let port = self.marked(false);
         if self.ended & (b == LF) {
-            return Heard {
-                port,
-                event: Event::Silent,
-            };
+            return port.quiet();
         }
         port.stopped().by_kind(model, kind_of(b), b)
     }

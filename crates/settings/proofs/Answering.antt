@@ -1,16 +1,16 @@
 -- Which selections a model can answer.
 use Prim.Native.Nat.{ℕ, _≤_, _<_}
 use mathlib.Core.Path.{_≡_, refl, sym}
-use mathlib.Core.List.{List, [], _∷_, _++_}
+use mathlib.Core.List.{List, [], _∷_}
 use mathlib.Core.Bool.{Bool, true, false, _&&_}
 use mathlib.Core.Logic.{⊎-elim}
 use native.Mathlib.Omega.{arith}
 use borrow.Author.Tests.{lt-ltb, le-ltb}
-use lib.ListN.{length, drop, replicate, drop-of-length-le, List·getD-eq-default}
+use lib.ListN.{length, replicate, drop-of-length-le, List·getD-eq-default}
 use lib.Dec.{ltb}
 use Rattle.text.specs.Text.{ascii}
 use Rattle.text.proofs.Tables.{listed, everywhere}
-use Rattle.numbers.proofs.Cases.{below, cond-cases, never}
+use Rattle.numbers.proofs.Cases.{below}
 use Rattle.settings.specs.Models.{channels}
 use Rattle.settings.specs.Lists.{every, Each}
 use Rattle.settings.specs.Mnemonics.{storedNames, known, name, same, found, recognised, channelOf, isKnown, hasReply, answers}
@@ -21,7 +21,7 @@ use Rattle.settings.specs.declared.mnemonic.Setting.the-variants.{Uni, F
 use Rattle.settings.specs.declared.mnemonic.Query.{Query}
 use Rattle.settings.specs.declared.mnemonic.Query.the-variants.{Sps, Pr, Prx, Tid, Ayt, Err}
 use Rattle.settings.specs.declared.mnemonic.Mnemonic.{Mnemonic}
-use Rattle.settings.specs.declared.mnemonic.Mnemonic.the-variants.{Setting as Of, Cf, Query as Asked, Com, Sav}
+use Rattle.settings.specs.declared.mnemonic.Mnemonic.the-variants.{Setting as Of, Cf, Query as Asked}
 use Rattle.settings.proofs.Lists.{each-map, every-each}
 use Rattle.settings.proofs.Names.{not-three}
 

@@ -9,11 +9,10 @@ use Rattle.gauges.specs.Readings.{withinLimits}
 use Rattle.gauges.specs.declared.reading.Reading.{Reading}
 use Rattle.ports.specs.Stream.{ticked}
 use Rattle.ports.specs.declared.Ticked.{Ticked}
-use Rattle.shared.specs.Replies.{streamText}
 use Rattle.tpg.specs.Answers.{answer, handed}
 use Rattle.tpg.specs.States.{stateWithin}
 use Rattle.tpg.specs.Steps.{over}
-use Rattle.tpg.specs.Calls.{roomed, roomedBytes, isChannel, read, readingCall, counted, tickText}
+use Rattle.tpg.specs.Calls.{roomed, roomedBytes, isChannel, read, readingCall, counted, dueText, tickText}
 use Rattle.tpg.specs.declared.State.{State}
 use Rattle.tpg.specs.declared.answers.Outcome.{Outcome}
 
@@ -49,19 +48,9 @@ module _ (s : State) (channel : ℕ) (r : Reading) where
   unfolding readingCall
   accepted e c w = rw (e, c, w)
 
--- ---- a tick: whether a line is due
+-- ---- a tick that is counted
 
-module _ (s : State) (t : Ticked) (out : List ℕ) where
-  pub due : (w : ℕ) (out' : List ℕ) → t ≡ ticked (s .port) → t .due ≡ true → w ≡ length (streamText (s .shared)) → out' ≡ over (streamText (s .shared)) out
-      → (record { answer = answer 0; state = record { shared = s .shared; port = t .port }; taken = 0; written = w } ≡ counted s) × (out' ≡ over (tickText s) out)
-  unfolding counted tickText
-  due w out' e d f g =
-      let q : ticked (s .port) .due ≡ true = ap (λ (x : Ticked). x .due) (sym e) ∙ d in
-      rw (q, f, g, e) (refl, refl)
-
-  pub not-due : t ≡ ticked (s .port) → t .due ≡ false
-      → (record { answer = answer 0; state = record { shared = s .shared; port = t .port }; taken = 0; written = 0 } ≡ counted s) × (out ≡ over (tickText s) out)
-  unfolding counted tickText over
-  not-due e d =
-      let q : ticked (s .port) .due ≡ false = ap (λ (x : Ticked). x .due) (sym e) ∙ d in
-      rw (q, e) (refl, refl)
+pub ticked-on : (s : State) (t : Ticked) (out out' : List ℕ) (w : ℕ) → t ≡ ticked (s .port) → w ≡ length (dueText (s .shared) (t .due)) → out' ≡ over (dueText (s .shared) (t .due)) out
+    → (record { answer = answer 0; state = record { shared = s .shared; port = t .port }; taken = 0; written = w } ≡ counted s) × (out' ≡ over (tickText s) out)
+unfolding counted tickText
+ticked-on s t out out' w e f g = rw (f, g, e) (refl, refl)

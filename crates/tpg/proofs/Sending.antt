@@ -1,19 +1,17 @@
 -- Nothing that is sent is longer than the room that is asked for.
 use Prim.Native.Nat.{ℕ, _≤_}
-use mathlib.Core.List.{[]}
+use mathlib.Core.Bool.{Bool, true, false}
 use native.Mathlib.Omega.{arith}
 use lib.ListN.{length}
-use Rattle.numbers.proofs.Cases.{cond-cases}
 use Rattle.lines.specs.declared.verdict.Verdict.{Verdict}
 use Rattle.lines.specs.declared.verdict.Verdict.the-variants.{Asks, Writes, Refused}
 use Rattle.ports.specs.Stream.{ticked}
 use Rattle.ports.specs.declared.Event.{Event}
 use Rattle.ports.specs.declared.Event.the-variants.{Silent, Line, Reply}
-use Rattle.shared.specs.Replies.{streamText}
 use Rattle.shared.specs.declared.Shared.{Shared}
 use Rattle.shared.proofs.Lengths.{reply-length, stream-length}
 use Rattle.tpg.specs.Steps.{lineText, eventText, hearing, sent}
-use Rattle.tpg.specs.Calls.{tickText}
+use Rattle.tpg.specs.Calls.{dueText, tickText}
 use Rattle.tpg.specs.declared.State.{State}
 
 line-length : (v : Verdict) → length (lineText v) ≤ 64
@@ -31,6 +29,10 @@ pub sent-length : (s : State) (b : ℕ) → length (sent s b) ≤ 64
 unfolding sent
 sent-length s b = event-length (s .shared) (hearing s b .event)
 
+pub due-length : (s : Shared) (due : Bool) → length (dueText s due) ≤ 64
+due-length s true = stream-length s
+due-length s false = omega arith
+
 pub tick-length : (s : State) → length (tickText s) ≤ 64
 unfolding tickText
-tick-length s = cond-cases (λ bytes. length bytes ≤ 64) (ticked (s .port) .due) (streamText (s .shared)) [] (λ _. stream-length (s .shared)) (λ _. omega arith)
+tick-length s = due-length (s .shared) (ticked (s .port) .due)

@@ -15,6 +15,7 @@ use Rattle.ports.specs.Stream.{ticked}
 use Rattle.shared.specs.Events.{taken as readingTaken}
 use Rattle.shared.specs.Limits.{serialWithin}
 use Rattle.shared.specs.Replies.{streamText}
+use Rattle.shared.specs.declared.Shared.{Shared}
 use Rattle.tpg.specs.Answers.{answer, handed}
 use Rattle.tpg.specs.States.{stateWithin, freshBox, cycled}
 use Rattle.tpg.specs.Steps.{after, said, taken}
@@ -63,8 +64,11 @@ abbrev pub hostBytes : State → List ℕ → ℕ → List ℕ
 hostBytes s input room = roomedBytes s room (hostText s input room)
 
 -- a line of the stream, where one is due
+abbrev pub dueText : Shared → Bool → List ℕ
+dueText s due = cond due (streamText s) []
+
 unfoldable pub tickText : State → List ℕ
-tickText s = cond (ticked (s .port) .due) (streamText (s .shared)) []
+tickText s = dueText (s .shared) (ticked (s .port) .due)
 
 -- one tick counted
 unfoldable pub counted : State → Outcome

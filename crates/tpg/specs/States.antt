@@ -3,6 +3,7 @@ use Prim.Native.Nat.{ℕ}
 use mathlib.Core.Bool.{Bool, _&&_}
 use Rattle.settings.specs.Models.{defaults}
 use Rattle.settings.specs.declared.model.Model.{Model}
+use Rattle.settings.specs.declared.Settings.{Settings}
 use Rattle.ports.specs.Hearing.{freshPort}
 use Rattle.ports.specs.Limits.{portWithin, Eighty}
 use Rattle.shared.specs.Events.{started}
@@ -13,13 +14,17 @@ use Rattle.tpg.specs.declared.State.{State}
 unfoldable pub stateWithin : State → Bool
 stateWithin s = sharedWithin (s .shared) && portWithin (s .shared .model) (s .port)
 
--- a fresh box: its saved set is "the defaults", and it starts with it
+-- a box that starts with a saved set
+abbrev pub startedBox : Model → ℕ → Settings → State
+startedBox model serial saved = record { shared = started model serial saved; port = freshPort model }
+
+-- a fresh box: its saved set is "the defaults"
 abbrev pub freshBox : Model → ℕ → State
-freshBox model serial = record { shared = started model serial (defaults model); port = freshPort model }
+freshBox model serial = startedBox model serial (defaults model)
 
 -- "A power cycle keeps model, serial and saved set, takes the settings from it, and otherwise starts as a fresh box does"
 abbrev pub cycled : State → State
-cycled s = record { shared = started (s .shared .model) (s .shared .serial) (s .shared .saved); port = freshPort (s .shared .model) }
+cycled s = startedBox (s .shared .model) (s .shared .serial) (s .shared .saved)
 
 -- the arrays of a state have their lengths, as its type says
 pub record Formed (s : State) : Type 0 where

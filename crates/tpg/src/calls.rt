@@ -2,18 +2,37 @@
 ghost use mathlib.Core.Path.{_≡_};
 ghost use Prim.Native.Nat.{_≤_};
 ghost use lib.ListN.{length};
+ghost use Rattle.text.specs.Text.{empty, puts};
 ghost use Rattle.tpg.specs.Answers.{answer, handed};
+ghost use Rattle.tpg.specs.States.{freshBox};
 ghost use Rattle.tpg.specs.Steps.{over};
-ghost use Rattle.tpg.specs.Calls.{freshCall, counted, tickText, tickCall, tickBytes, read, readingCall, cycleCall};
+ghost use Rattle.tpg.specs.Calls.{freshCall, counted, dueText, tickText, tickCall, tickBytes, read, readingCall, cycleCall};
 use crate::State;
 use crate::answers::Answer;
 use crate::answers::Outcome;
 use gauges::reading::Reading;
 use numbers::value::Value;
-use ports::Port;
 use settings::model::Model;
 use settings::model::Numbered;
 use shared::Shared;
+use text::Text;
+
+// A fresh box, and an answer.
+fn made(model: Model, serial: u32, answer: Answer) -> Outcome
+    ensures { λ r. ⌜ r ≡ handed answer (freshBox model serial) ⌝ }
+{
+    State::start(model, serial, model.defaults()).with_answer(answer)
+}
+
+// What a tick sends: a line of the stream where one is due.
+fn due_text(shared: Shared, due: bool) -> Text
+    ensures { λ r. ⌜ r ≡ puts empty (dueText shared due) ⌝ }
+{
+    if due {
+        return shared.stream_line();
+    }
+    Text::empty()
+}
 
 impl State {
     // A box of the model with that number; where there is none, or the serial is too long, a fresh 361 comes with the refusal.
@@ -24,11 +43,11 @@ impl State {
         match numbered {
             Numbered::One(model) => {
                 if serial <= Shared::MOST_SERIAL {
-                    return State::new(model, serial).with_answer(Answer::Accepted);
+                    return made(model, serial, Answer::Accepted);
                 }
-                State::new(Model::Tpg361, 0).with_answer(Answer::NoModel)
+                made(Model::Tpg361, 0, Answer::NoModel)
             }
-            Numbered::NoModel => State::new(Model::Tpg361, 0).with_answer(Answer::NoModel),
+            Numbered::NoModel => made(Model::Tpg361, 0, Answer::NoModel),
         }
     }
 
@@ -76,10 +95,7 @@ impl State {
         let t = before.tick();
         let port = t.port;
         let state = State { shared, port };
-        let mut written: usize = 0;
-        if t.due {
-            written = shared.stream_line().copy(out, 0);
-        }
+        let written = due_text(shared, t.due).copy(out, 0);
         Outcome {
             answer: Answer::Accepted,
             state,
@@ -104,13 +120,11 @@ impl State {
     pub fn power_cycle(self) -> Outcome
         ensures { λ r. ⌜ r ≡ cycleCall self ⌝ }
     {
-        let before = self.shared;
-        let model = before.model;
-        let saved = before.saved;
+        let shared = self.shared;
+        let model = shared.model;
+        let saved = shared.saved;
         if self.is_within() {
-            let shared = Shared::started(model, before.serial, saved);
-            let port = Port::fresh(model);
-            return State { shared, port }.with_answer(Answer::Accepted);
+            return State::start(model, shared.serial, saved).with_answer(Answer::Accepted);
         }
         self.with_answer(Answer::BrokenState)
     }

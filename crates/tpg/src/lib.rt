@@ -1,7 +1,8 @@
 // The box: its state, and the calls that take it by value and hand it back.
 ghost use mathlib.Core.Path.{_≡_};
-ghost use Rattle.tpg.specs.States.{stateWithin, freshBox};
+ghost use Rattle.tpg.specs.States.{stateWithin, startedBox};
 use ports::Port;
+use settings::Settings;
 use settings::model::Model;
 use shared::Shared;
 
@@ -28,11 +29,11 @@ impl State {
         shared.is_within() & port.is_within(model)
     }
 
-    // A box that nothing has happened to.
-    pub(crate) fn new(model: Model, serial: u32) -> State
-        ensures { λ r. ⌜ r ≡ freshBox model serial ⌝ }
+    // A box that starts with a saved set.
+    pub(crate) fn start(model: Model, serial: u32, saved: Settings) -> State
+        ensures { λ r. ⌜ r ≡ startedBox model serial saved ⌝ }
     {
-        let shared = Shared::started(model, serial, model.defaults());
+        let shared = Shared::started(model, serial, saved);
         let port = Port::fresh(model);
         State { shared, port }
     }

@@ -1,4 +1,3 @@
--- The tests are the definition's: the LF behind a CR, or a byte of its kind.
 use Rattle.ports.specs.Hearing.{heard}
 use borrow.Author.Needs.{needs}
 use Rattle.ports.proofs.Port.byte.Statement.{statement}
@@ -7,9 +6,12 @@ use Rattle.ports.proofs.Port.byte.Tie as tie
 marked-requires : tie.Need-marked-requires
 marked-requires c κs = search needs
 
+quiet-requires : tie.Need-quiet-requires
+quiet-requires c κs = search needs
+
 returns : tie.Need-returns
 unfolding heard
-returns c = rw (c .if1 .taken, c .before .before .marked .ensures)
+returns c = rw (c .before .if1 .taken, c .quiet .ensures, c .before .before .before .marked .ensures)
 
 stopped-requires : tie.Need-stopped-requires
 stopped-requires c κs = search needs
@@ -22,10 +24,16 @@ by-kind-requires c κs = search needs
 
 returns-2 : tie.Need-returns-2
 unfolding heard
-returns-2 c =
-    rw (c .before .before .before .if1 .left, c .by-kind .ensures, c .before .kind-of .ensures, c .before .before .stopped .ensures, c .before .before .before .before .before .marked .ensures)
+returns-2 c = rw (c .before .before .before .if1 .left, c .by-kind .ensures, c .before .kind-of .ensures, c .before .before .stopped .ensures, c .before .before .before .before .before .marked .ensures)
 
 pub byte-spec : {M : Type 1} → statement M
 byte-spec =
     tie.close
-    (tie.spec marked-requires returns stopped-requires kind-of-requires by-kind-requires returns-2)
+    (tie.spec
+    marked-requires
+    quiet-requires
+    returns
+    stopped-requires
+    kind-of-requires
+    by-kind-requires
+    returns-2)

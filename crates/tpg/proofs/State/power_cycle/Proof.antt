@@ -8,11 +8,8 @@ use Rattle.tpg.proofs.State.power_cycle.Tie as tie
 is-within-requires : tie.Need-is-within-requires
 is-within-requires c κs = search needs
 
-started-requires : tie.Need-started-requires
-started-requires c κs = search needs
-
-fresh-requires : tie.Need-fresh-requires
-fresh-requires c κs = search needs
+start-requires : tie.Need-start-requires
+start-requires c κs = search needs
 
 with-answer-requires : tie.Need-with-answer-requires
 with-answer-requires c κs = search needs
@@ -20,8 +17,8 @@ with-answer-requires c κs = search needs
 returns : tie.Need-returns
 unfolding cycleCall
 returns c =
-    let b = c .before .before .before in
-    rw (sym (b .before .is-within .ensures) ∙ b .if1 .taken, c .with-answer .ensures, c .before .fresh .ensures, c .before .before .started .ensures)
+    let b = c .before .before in
+    rw (sym (b .before .is-within .ensures) ∙ b .if1 .taken, c .with-answer .ensures, c .before .start .ensures)
 
 with-answer-requires-2 : tie.Need-with-answer-requires-2
 with-answer-requires-2 c κs = search needs
@@ -35,8 +32,7 @@ power-cycle-spec =
     tie.close
     (tie.spec
     is-within-requires
-    started-requires
-    fresh-requires
+    start-requires
     with-answer-requires
     returns
     with-answer-requires-2

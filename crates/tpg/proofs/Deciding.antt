@@ -9,7 +9,7 @@ use Rattle.gauges.specs.Readings.{withinLimits}
 use Rattle.gauges.specs.declared.reading.Reading.{Reading}
 use Rattle.ports.specs.Stream.{ticked}
 use Rattle.ports.specs.declared.Ticked.{Ticked}
-use Rattle.tpg.specs.Answers.{answer, handed}
+use Rattle.tpg.specs.Answers.{answer, handed, done}
 use Rattle.tpg.specs.States.{stateWithin}
 use Rattle.tpg.specs.Steps.{over}
 use Rattle.tpg.specs.Calls.{roomed, roomedBytes, isChannel, read, readingCall, counted, dueText, tickText}
@@ -51,6 +51,6 @@ module _ (s : State) (channel : ℕ) (r : Reading) where
 -- ---- a tick that is counted
 
 pub ticked-on : (s : State) (t : Ticked) (out out' : List ℕ) (w : ℕ) → t ≡ ticked (s .port) → w ≡ length (dueText (s .shared) (t .due)) → out' ≡ over (dueText (s .shared) (t .due)) out
-    → (record { answer = answer 0; state = record { shared = s .shared; port = t .port }; taken = 0; written = w } ≡ counted s) × (out' ≡ over (tickText s) out)
+    → (done (record { shared = s .shared; port = t .port }) 0 w ≡ counted s) × (out' ≡ over (tickText s) out)
 unfolding counted tickText
 ticked-on s t out out' w e f g = rw (f, g, e) (refl, refl)

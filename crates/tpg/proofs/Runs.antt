@@ -15,7 +15,7 @@ use Rattle.ports.specs.declared.Event.the-variants.{Silent, Line, Reply}
 use Rattle.ports.specs.declared.Heard.{Heard}
 use Rattle.ports.specs.declared.Port.{Port}
 use Rattle.shared.specs.declared.Shared.{Shared}
-use Rattle.tpg.specs.Answers.{answer}
+use Rattle.tpg.specs.Answers.{done}
 use Rattle.tpg.specs.Steps.{eventText, isLoud, acted, hearing, next, sent, after, said, taken, over, laidAt}
 use Rattle.tpg.specs.Calls.{hostText, hosted}
 use Rattle.tpg.specs.declared.State.{State}
@@ -135,6 +135,6 @@ module _ {s : State} {input out₀ : List ℕ} {shared : Shared} {port : Port} {
     all-taken : taken s input (length out₀) ≡ t
     all-taken = g .left ∙ rw none (add-zero t)
 
-    pub ended : (record { answer = answer 0; state = now; taken = t; written = w } ≡ hosted s input (length out₀)) × (out ≡ over (hostText s input (length out₀)) out₀)
+    pub ended : (done now t w ≡ hosted s input (length out₀)) × (out ≡ over (hostText s input (length out₀)) out₀)
     unfolding hosted
-    ended = rw all-taken ((λ i. record { answer = answer 0; state = g .state i; taken = t; written = g .count i }), g .bytes)
+    ended = rw all-taken ((λ i. done (g .state i) t (g .count i)), g .bytes)

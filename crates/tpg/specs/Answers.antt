@@ -27,3 +27,7 @@ answer n = getD table n Accepted
 -- "that state, counts 0"
 abbrev pub handed : Answer → State → Outcome
 handed a s = record { answer = a; state = s; taken = 0; written = 0 }
+
+-- "new state, counts, bytes written"
+abbrev pub done : State → ℕ → ℕ → Outcome
+done s taken written = record { answer = answer 0; state = s; taken = taken; written = written }

@@ -16,7 +16,7 @@ use Rattle.shared.specs.Events.{taken as readingTaken}
 use Rattle.shared.specs.Limits.{serialWithin}
 use Rattle.shared.specs.Replies.{streamText}
 use Rattle.shared.specs.declared.Shared.{Shared}
-use Rattle.tpg.specs.Answers.{answer, handed}
+use Rattle.tpg.specs.Answers.{answer, handed, done}
 use Rattle.tpg.specs.States.{stateWithin, freshBox, cycled}
 use Rattle.tpg.specs.Steps.{after, said, taken}
 use Rattle.tpg.specs.declared.State.{State}
@@ -49,12 +49,7 @@ hostText s input room = said s (takenBytes s input room)
 
 -- "answers how many were taken and written"
 unfoldable pub hosted : State → List ℕ → ℕ → Outcome
-hosted s input room = record {
-  answer = answer 0;
-  state = after s (takenBytes s input room);
-  taken = taken s input room;
-  written = length (hostText s input room);
-}
+hosted s input room = done (after s (takenBytes s input room)) (taken s input room) (length (hostText s input room))
 
 -- the call that takes host bytes, and what it sends
 abbrev pub hostCall : State → List ℕ → ℕ → Outcome
@@ -72,7 +67,7 @@ tickText s = dueText (s .shared) (ticked (s .port) .due)
 
 -- one tick counted
 unfoldable pub counted : State → Outcome
-counted s = record { answer = answer 0; state = record { shared = s .shared; port = ticked (s .port) .port }; taken = 0; written = length (tickText s) }
+counted s = done (record { shared = s .shared; port = ticked (s .port) .port }) 0 (length (tickText s))
 
 -- the call that takes a tick, and what it sends
 abbrev pub tickCall : State → ℕ → Outcome

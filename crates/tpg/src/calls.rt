@@ -10,6 +10,7 @@ ghost use Rattle.tpg.specs.Calls.{freshCall, counted, dueText, tickText,
 use crate::State;
 use crate::answers::Answer;
 use crate::answers::Outcome;
+use crate::answers::finished;
 use gauges::reading::Reading;
 use numbers::value::Value;
 use settings::model::Model;
@@ -58,7 +59,7 @@ impl State {
         let before = self.shared;
         let port = self.port;
         let shared = before.take(channel, r);
-        State { shared, port }.with_answer(Answer::Accepted)
+        finished(shared, port, 0, 0)
     }
 
     // A reading of a channel, from 1 on.
@@ -94,14 +95,8 @@ impl State {
         let before = self.port;
         let t = before.tick();
         let port = t.port;
-        let state = State { shared, port };
         let written = due_text(shared, t.due).copy(out, 0);
-        Outcome {
-            answer: Answer::Accepted,
-            state,
-            taken: 0,
-            written,
-        }
+        finished(shared, port, 0, written)
     }
 
     // One tick of 100 ms.

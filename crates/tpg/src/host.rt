@@ -3,16 +3,15 @@ ghost use mathlib.Core.Path.{_≡_};
 ghost use Prim.Native.Nat.{_+_, _≤_};
 ghost use lib.ListN.{length};
 ghost use Rattle.text.specs.Text.{empty, puts};
-ghost use Rattle.tpg.specs.Answers.{answer};
 ghost use Rattle.tpg.specs.Steps.{lineText, eventText, isLoud, acted, over, laidAt};
 ghost use Rattle.tpg.specs.Calls.{hosted, hostText, hostCall, hostBytes};
 use crate::State;
 use crate::answers::Answer;
 use crate::answers::Outcome;
+use crate::answers::finished;
 use lines::replies::end_line;
 use lines::verdict::Verdict;
 use ports::Event;
-use ports::Port;
 use shared::Shared;
 use text::Text;
 
@@ -78,18 +77,6 @@ fn is_loud(event: Event) -> bool
         Event::Silent => false,
         Event::Line(_) => true,
         Event::Reply(_, _) => true,
-    }
-}
-
-fn finished(shared: Shared, port: Port, taken: usize, written: usize) -> Outcome
-    ensures { λ r. ⌜ r ≡ record { answer = answer 0; state = record { shared = shared; port = port }; taken = taken; written = written } ⌝ }
-{
-    let state = State { shared, port };
-    Outcome {
-        answer: Answer::Accepted,
-        state,
-        taken,
-        written,
     }
 }
 

@@ -3,31 +3,46 @@ use mathlib.Core.Path.{_∙_}
 use Prim.Native.Nat.{_+_, _≤_}
 use native.Mathlib.Omega.{arith}
 use native.Mathlib.Nat.{zero-add}
+use borrow.Author.Needs.{needs}
 use denote.Ref.{now}
 use lib.ListN.{length}
 use Rattle.tpg.specs.Calls.{dueText}
 use Rattle.tpg.proofs.Laying.{copied, laid-first}
 use Rattle.tpg.proofs.Sending.{due-length}
 use Rattle.tpg.proofs.Deciding.{ticked-on}
-use borrow.Author.Needs.{needs}
 use Rattle.tpg.proofs.State.advance.Statement.{statement}
 use Rattle.tpg.proofs.State.advance.Tie as tie
+use Rattle.tpg.proofs.State.advance.Reads as reads
+use Rattle.tpg.proofs.State.advance.Lts as lts
+use Rattle.ports.proofs.Port.tick.Reads as tick-reads
+use Rattle.text.proofs.Text.copy.Reads as copy-reads
+use Rattle.tpg.proofs.answers.finished.Reads as finished-reads
+use Rattle.tpg.proofs.calls.due_text.Reads as due-text-reads
 
+-- src/calls.rt:96:13
 tick-requires : tie.Need-tick-requires
 tick-requires c κs = search needs
 
+-- src/calls.rt:98:23
 due-text-requires : tie.Need-due-text-requires
 due-text-requires c κs = search needs
 
+-- src/calls.rt:98:13
 copy-requires : tie.Need-copy-requires
 copy-requires c κs = search needs
 
+-- src/calls.rt:99:9
+finished-requires : tie.Need-finished-requires
+finished-requires c κs = search needs
+
+-- src/calls.rt:90:5
 same-length : tie.Need-same-length
 same-length c = search needs
 
+-- src/calls.rt:90:5
 returns : tie.Need-returns
 returns c =
-    let k = c .before .before in
+    let k = c .before .before .before in
     let d = k .before .before in
     let b = d .before .before in
     let st = b .before .before .before .before in
@@ -37,9 +52,11 @@ returns c =
     let short = due-length (a .self .shared) (t .due) in
     let room : 0 + length text ≤ length (now (a .out)) = omega (arith, st .pre, short) in
     let l = copied (d .due-text .result) text (now (a .out)) 0 (d .due-text .ensures) short room in
-    ticked-on (a .self) t (now (a .out)) _ _ (b .tick .ensures) (k .copy .ensures .0 ∙ l .0 ∙ zero-add (length text))
-    (k .copy .ensures .1 ∙ l .1 ∙ laid-first text (now (a .out)))
+    let e = ticked-on (a .self) t (now (a .out)) _ _ (b .tick .ensures) (k .copy .ensures .0 ∙ l .0 ∙ zero-add (length text))
+    (k .copy .ensures .1 ∙ l .1 ∙ laid-first text (now (a .out))) in
+    (c .finished .ensures ∙ e .0, e .1)
 
 pub advance-spec : {M : Type 1} → statement M
 advance-spec =
-    tie.close (tie.spec tick-requires due-text-requires copy-requires same-length returns)
+    tie.close
+    (tie.spec tick-requires due-text-requires copy-requires finished-requires same-length returns)

@@ -25,7 +25,7 @@ const SPACE: u8 = 32;
 
 const DEL: u8 = 127;
 
-pub enum ByteKind {
+enum ByteKind {
     Cr,
     // an LF that is not straight after a CR, and a space
     Dropped,
@@ -121,7 +121,8 @@ impl Port {
         ensures { λ r. ⌜ r ≡ refused self x ⌝ }
     {
         let error = self.error;
-        self.with_choice(Selection::Nothing, error.with(x))
+        let selection = Selection::Nothing;
+        self.with_choice(selection, error.with(x))
     }
 
     // The port after a line that was judged.

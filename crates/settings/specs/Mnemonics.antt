@@ -132,6 +132,7 @@ queryIsErr Tid = false
 queryIsErr Ayt = false
 queryIsErr Err = true
 
+-- and so for every mnemonic
 abbrev pub isErr : Mnemonic → Bool
 isErr (Of x) = false
 isErr (Cf k) = false

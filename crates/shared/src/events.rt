@@ -57,12 +57,13 @@ impl Shared {
         ensures { λ r. ⌜ r ≡ started model serial saved ⌝ }
     {
         let w = saved.switching;
+        let none = Reading::none();
         Shared {
             model,
             serial,
             settings: saved,
             saved,
-            readings: [Reading::none(), Reading::none()],
+            readings: [none, none],
             switches: [
                 model.starts_on(w[0].assignment),
                 model.starts_on(w[1].assignment),

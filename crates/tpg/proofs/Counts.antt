@@ -1,13 +1,12 @@
 -- The count of bytes taken is the one that the rule of 64 free bytes allows, and no other.
-use Prim.Native.Nat.{ℕ, zero, suc, _+_, _-_, _≤_, _<_}
-use mathlib.Core.Path.{_≡_}
+use Prim.Native.Nat.{ℕ, zero, suc, _-_, _≤_, _<_}
 use mathlib.Core.List.{List, [], _∷_}
-use mathlib.Core.Bool.{true, false}
 use native.Mathlib.Omega.{arith}
 use borrow.Author.Tests.{leb-true, leb-false}
 use lib.ListN.{length, take, length-append}
 use lib.Dec.{leb}
 use Rattle.numbers.proofs.Cases.{cond-cases}
+use Rattle.tpg.specs.Answers.{leastOutput}
 use Rattle.tpg.specs.Steps.{next, sent, said, taken}
 use Rattle.tpg.specs.declared.State.{State}
 
@@ -16,12 +15,12 @@ pub taken-few : (l : List ℕ) (s : State) (free : ℕ) → taken s l free ≤ l
 unfolding taken
 taken-few [] s free = omega arith
 taken-few (b ∷ bs) s free =
-    cond-cases (λ n. n ≤ suc (length bs)) (leb 64 free) (suc (taken (next s b) bs (free - length (sent s b)))) 0
+    cond-cases (λ n. n ≤ suc (length bs)) (leb leastOutput free) (suc (taken (next s b) bs (free - length (sent s b)))) 0
     (λ _. omega (arith, taken-few bs (next s b) (free - length (sent s b)))) (λ _. omega arith)
 
-room-at : (s : State) (b : ℕ) (bs : List ℕ) (free n : ℕ) → 64 ≤ free
-    → ((j : ℕ) → j < n → 64 ≤ free - length (sent s b) - length (said (next s b) (take j bs)))
-    → (i : ℕ) → i < suc n → 64 ≤ free - length (said s (take i (b ∷ bs)))
+room-at : (s : State) (b : ℕ) (bs : List ℕ) (free n : ℕ) → leastOutput ≤ free
+    → ((j : ℕ) → j < n → leastOutput ≤ free - length (sent s b) - length (said (next s b) (take j bs)))
+    → (i : ℕ) → i < suc n → leastOutput ≤ free - length (said s (take i (b ∷ bs)))
 unfolding said
 room-at s b bs free n r f zero h = omega arith
 room-at s b bs free n r f (suc j) h =
@@ -29,20 +28,20 @@ room-at s b bs free n r f (suc j) h =
     rw (length-append (sent s b) (said (next s b) (take j bs))) (omega (arith, q))
 
 -- before each byte that is taken 64 bytes are free
-pub taken-room : (l : List ℕ) (s : State) (free i : ℕ) → i < taken s l free → 64 ≤ free - length (said s (take i l))
+pub taken-room : (l : List ℕ) (s : State) (free i : ℕ) → i < taken s l free → leastOutput ≤ free - length (said s (take i l))
 unfolding taken said
 taken-room [] s free i = λ h. absurd (omega arith)
 taken-room (b ∷ bs) s free i =
-    cond-cases (λ n. i < n → 64 ≤ free - length (said s (take i (b ∷ bs)))) (leb 64 free) (suc (taken (next s b) bs (free - length (sent s b)))) 0
-    (λ e. room-at s b bs free (taken (next s b) bs (free - length (sent s b))) (leb-true 64 free e) (taken-room bs (next s b) (free - length (sent s b))) i)
+    cond-cases (λ n. i < n → leastOutput ≤ free - length (said s (take i (b ∷ bs)))) (leb leastOutput free) (suc (taken (next s b) bs (free - length (sent s b)))) 0
+    (λ e. room-at s b bs free (taken (next s b) bs (free - length (sent s b))) (leb-true leastOutput free e) (taken-room bs (next s b) (free - length (sent s b))) i)
     (λ _ h. absurd (omega arith))
 
 -- and where one is left, not before it
-pub taken-stop : (l : List ℕ) (s : State) (free : ℕ) → taken s l free < length l → free - length (said s (take (taken s l free) l)) < 64
+pub taken-stop : (l : List ℕ) (s : State) (free : ℕ) → taken s l free < length l → free - length (said s (take (taken s l free) l)) < leastOutput
 unfolding taken said
 taken-stop [] s free = λ h. absurd (omega arith)
 taken-stop (b ∷ bs) s free =
-    cond-cases (λ n. n < suc (length bs) → free - length (said s (take n (b ∷ bs))) < 64) (leb 64 free) (suc (taken (next s b) bs (free - length (sent s b)))) 0
+    cond-cases (λ n. n < suc (length bs) → free - length (said s (take n (b ∷ bs))) < leastOutput) (leb leastOutput free) (suc (taken (next s b) bs (free - length (sent s b)))) 0
     (λ _ h. let q = taken-stop bs (next s b) (free - length (sent s b)) (omega arith) in
     rw (length-append (sent s b) (said (next s b) (take (taken (next s b) bs (free - length (sent s b))) bs))) (omega (arith, q)))
-    (λ e h. omega (arith, leb-false 64 free e))
+    (λ e h. omega (arith, leb-false leastOutput free e))

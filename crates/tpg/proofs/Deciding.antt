@@ -1,6 +1,6 @@
 -- How a call with a lent output is decided, in the order of the paper's numbers, and what is then in the output.
 use Prim.Native.Nat.{ℕ, _-_, _≤_, _<_}
-use mathlib.Core.Path.{_≡_, refl, sym, ap, _∙_}
+use mathlib.Core.Path.{_≡_, refl}
 use mathlib.Core.List.{List}
 use mathlib.Core.Bool.{true, false}
 use borrow.Author.Tests.{le-leb, lt-leb}
@@ -9,7 +9,7 @@ use Rattle.gauges.specs.Readings.{withinLimits}
 use Rattle.gauges.specs.declared.reading.Reading.{Reading}
 use Rattle.ports.specs.Stream.{ticked}
 use Rattle.ports.specs.declared.Ticked.{Ticked}
-use Rattle.tpg.specs.Answers.{answer, handed, done}
+use Rattle.tpg.specs.Answers.{answer, handed, done, leastOutput}
 use Rattle.tpg.specs.States.{stateWithin}
 use Rattle.tpg.specs.Steps.{over}
 use Rattle.tpg.specs.Calls.{roomed, roomedBytes, isChannel, read, readingCall, counted, dueText, tickText}
@@ -21,13 +21,13 @@ module _ (s : State) (o : Outcome) (bytes out : List ℕ) where
   unfolding roomed roomedBytes over
   broken e = rw e (refl, refl)
 
-  pub short : stateWithin s ≡ true → length out < 64 → (handed (answer 3) s ≡ roomed s (length out) o) × (out ≡ over (roomedBytes s (length out) bytes) out)
+  pub short : stateWithin s ≡ true → length out < leastOutput → (handed (answer 3) s ≡ roomed s (length out) o) × (out ≡ over (roomedBytes s (length out) bytes) out)
   unfolding roomed roomedBytes over
-  short e h = rw (e, lt-leb 64 (length out) h) (refl, refl)
+  short e h = rw (e, lt-leb leastOutput (length out) h) (refl, refl)
 
-  pub roomy : stateWithin s ≡ true → 64 ≤ length out → (o ≡ roomed s (length out) o) × (over bytes out ≡ over (roomedBytes s (length out) bytes) out)
+  pub roomy : stateWithin s ≡ true → leastOutput ≤ length out → (o ≡ roomed s (length out) o) × (over bytes out ≡ over (roomedBytes s (length out) bytes) out)
   unfolding roomed roomedBytes
-  roomy e h = rw (e, le-leb 64 (length out) h) (refl, refl)
+  roomy e h = rw (e, le-leb leastOutput (length out) h) (refl, refl)
 
 -- and a reading
 module _ (s : State) (channel : ℕ) (r : Reading) where

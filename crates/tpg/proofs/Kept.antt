@@ -25,7 +25,7 @@ use Rattle.shared.specs.Events.{taken as readingTaken, written, heard}
 use Rattle.shared.specs.Limits.{sharedWithin, serialWithin, Whole}
 use Rattle.shared.specs.declared.Shared.{Shared}
 use Rattle.shared.proofs.Kept as shared
-use Rattle.tpg.specs.Answers.{answer, handed}
+use Rattle.tpg.specs.Answers.{answer, handed, leastOutput}
 use Rattle.tpg.specs.States.{stateWithin, freshBox, cycled, Formed}
 use Rattle.tpg.specs.Steps.{acted, hearing, next, after}
 use Rattle.tpg.specs.Calls.{made, freshCall, roomed, takenBytes, hosted, hostCall, counted, tickCall, isChannel, read, readingCall, cycleCall}
@@ -115,8 +115,8 @@ module _ (s : State) (k : Sound s) where
   roomed-sound : (room : ℕ) (o : Outcome) → Sound (o .state) → Sound (roomed s room o .state)
   unfolding roomed
   roomed-sound room o h =
-      cond-cases (λ o. Sound (o .state)) (stateWithin s) (cond (leb 64 room) o (handed (answer 3) s)) (handed (answer 1) s)
-      (λ _. cond-cases (λ o. Sound (o .state)) (leb 64 room) o (handed (answer 3) s) (λ _. h) (λ _. k)) (λ _. k)
+      cond-cases (λ o. Sound (o .state)) (stateWithin s) (cond (leb leastOutput room) o (handed (answer 3) s)) (handed (answer 1) s)
+      (λ _. cond-cases (λ o. Sound (o .state)) (leb leastOutput room) o (handed (answer 3) s) (λ _. h) (λ _. k)) (λ _. k)
 
   pub host-sound : (input : List ℕ) (room : ℕ) → Sound (hostCall s input room .state)
   unfolding hosted

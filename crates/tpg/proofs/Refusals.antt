@@ -9,7 +9,7 @@ use Rattle.gauges.specs.declared.reading.Reading.{Reading}
 use Rattle.lines.specs.declared.verdict.Fault.{Fault}
 use Rattle.lines.specs.declared.verdict.Verdict.the-variants.{Refused}
 use Rattle.ports.specs.declared.Event.the-variants.{Line}
-use Rattle.tpg.specs.Answers.{number, table, answer, handed}
+use Rattle.tpg.specs.Answers.{number, table, answer, handed, leastOutput}
 use Rattle.tpg.specs.States.{stateWithin, cycled}
 use Rattle.tpg.specs.Steps.{acted, hearing, next, over}
 use Rattle.tpg.specs.Calls.{roomed, roomedBytes, isChannel, read, readingCall, cycleCall}
@@ -29,7 +29,7 @@ module _ (s : State) where
   pub roomed-back : (room : ℕ) (o : Outcome) (bytes : List ℕ) → o .answer ≡ answer 0
       → (number (roomed s room o .answer) ≡ 0 → ⊥) → (roomed s room o ≡ handed (roomed s room o .answer) s) × (roomedBytes s room bytes ≡ [])
   unfolding roomed roomedBytes
-  roomed-back room o bytes e = by (stateWithin s) (leb 64 room)
+  roomed-back room o bytes e = by (stateWithin s) (leb leastOutput room)
     where
       by : (a b : Bool) → let r = cond a (cond b o (handed (answer 3) s)) (handed (answer 1) s) in
           (number (r .answer) ≡ 0 → ⊥) → (r ≡ handed (r .answer) s) × (cond (a && b) bytes [] ≡ [])

@@ -15,7 +15,7 @@ use Rattle.ports.specs.declared.Event.the-variants.{Silent, Line, Reply}
 use Rattle.ports.specs.declared.Heard.{Heard}
 use Rattle.ports.specs.declared.Port.{Port}
 use Rattle.shared.specs.declared.Shared.{Shared}
-use Rattle.tpg.specs.Answers.{done}
+use Rattle.tpg.specs.Answers.{done, leastOutput}
 use Rattle.tpg.specs.Steps.{eventText, isLoud, acted, hearing, next, sent, after, said, taken, over, laidAt}
 use Rattle.tpg.specs.Calls.{hostText, hosted}
 use Rattle.tpg.specs.declared.State.{State}
@@ -47,15 +47,15 @@ module _ (s : State) (l : List ℕ) (i : ℕ) (h : i < length l) where
 
 -- how many are taken: one more where there is room, none where there is not or nothing is left
 module _ (s : State) where
-  pub taken-more : (l : List ℕ) (i f : ℕ) → i < length l → 64 ≤ f
+  pub taken-more : (l : List ℕ) (i f : ℕ) → i < length l → leastOutput ≤ f
       → taken s (drop i l) f ≡ suc (taken (next s (getD l i 0)) (drop (i + 1) l) (f - length (sent s (getD l i 0))))
   unfolding taken
-  taken-more l i f h r = rw (drop-cons l i 0 h, le-leb 64 f r, add-one i)
+  taken-more l i f h r = rw (drop-cons l i 0 h, le-leb leastOutput f r, add-one i)
 
-  pub taken-full : (l : List ℕ) (f : ℕ) → f < 64 → taken s l f ≡ 0
+  pub taken-full : (l : List ℕ) (f : ℕ) → f < leastOutput → taken s l f ≡ 0
   unfolding taken
   taken-full [] f h = refl
-  taken-full (b ∷ bs) f h = rw (lt-leb 64 f h)
+  taken-full (b ∷ bs) f h = rw (lt-leb leastOutput f h)
 
   pub taken-end : (l : List ℕ) (i f : ℕ) → length l ≤ i → taken s (drop i l) f ≡ 0
   unfolding taken
@@ -94,7 +94,7 @@ module _ {s : State} {input out₀ : List ℕ} {shared : Shared} {port : Port} {
   abbrev byte : ℕ
   byte = getD input t 0
 
-  pub step : (shared' : Shared) (port' : Port) (out' : List ℕ) (w' : ℕ) → t < length input → w + 64 ≤ length out₀ → length (sent now byte) ≤ 64
+  pub step : (shared' : Shared) (port' : Port) (out' : List ℕ) (w' : ℕ) → t < length input → w + leastOutput ≤ length out₀ → length (sent now byte) ≤ leastOutput
       → record { shared = shared'; port = port' } ≡ next now byte → out' ≡ laidAt w (sent now byte) out → w' ≡ w + length (sent now byte)
       → Going s input out₀ shared' port' out' (t + 1) w'
   step shared' port' out' w' more room short state bytes count =
@@ -115,7 +115,7 @@ module _ {s : State} {input out₀ : List ℕ} {shared : Shared} {port : Port} {
   same-length = rw (g .bytes) (over-length (said s (take t input)) out₀ (omega (arith, g .count, g .inside)))
 
   -- a byte that was heard, and the event that was met
-  module _ (h : Heard) (more : t < length input) (room : w + 64 ≤ length out₀) (e : h ≡ hearing now byte) where
+  module _ (h : Heard) (more : t < length input) (room : w + leastOutput ≤ length out₀) (e : h ≡ hearing now byte) where
     pub loud : (shared' : Shared) (out' : List ℕ) (w' : ℕ) → shared' ≡ acted shared (h .event) → out' ≡ laidAt w (eventText shared (h .event)) out
         → w' ≡ w + length (eventText shared (h .event)) → Going s input out₀ shared' (h .port) out' (t + 1) w'
     unfolding next sent

@@ -10,29 +10,30 @@ use Rattle.ports.specs.declared.Event.{Event}
 use Rattle.ports.specs.declared.Event.the-variants.{Silent, Line, Reply}
 use Rattle.shared.specs.declared.Shared.{Shared}
 use Rattle.shared.proofs.Lengths.{reply-length, stream-length}
+use Rattle.tpg.specs.Answers.{leastOutput}
 use Rattle.tpg.specs.Steps.{lineText, eventText, hearing, sent}
 use Rattle.tpg.specs.Calls.{dueText, tickText}
 use Rattle.tpg.specs.declared.State.{State}
 
-line-length : (v : Verdict) → length (lineText v) ≤ 64
+line-length : (v : Verdict) → length (lineText v) ≤ leastOutput
 line-length (Asks m) = omega arith
 line-length (Writes m r) = omega arith
 line-length (Refused x) = omega arith
 
-pub event-length : (s : Shared) (e : Event) → length (eventText s e) ≤ 64
+pub event-length : (s : Shared) (e : Event) → length (eventText s e) ≤ leastOutput
 unfolding eventText
 event-length s Silent = omega arith
 event-length s (Line v) = line-length v
 event-length s (Reply m error) = reply-length s error m
 
-pub sent-length : (s : State) (b : ℕ) → length (sent s b) ≤ 64
+pub sent-length : (s : State) (b : ℕ) → length (sent s b) ≤ leastOutput
 unfolding sent
 sent-length s b = event-length (s .shared) (hearing s b .event)
 
-pub due-length : (s : Shared) (due : Bool) → length (dueText s due) ≤ 64
+pub due-length : (s : Shared) (due : Bool) → length (dueText s due) ≤ leastOutput
 due-length s true = stream-length s
 due-length s false = omega arith
 
-pub tick-length : (s : State) → length (tickText s) ≤ 64
+pub tick-length : (s : State) → length (tickText s) ≤ leastOutput
 unfolding tickText
 tick-length s = due-length (s .shared) (ticked (s .port) .due)

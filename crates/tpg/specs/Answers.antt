@@ -31,3 +31,7 @@ handed a s = record { answer = a; state = s; taken = 0; written = 0 }
 -- "new state, counts, bytes written"
 abbrev pub done : State → ℕ → ℕ → Outcome
 done s taken written = record { answer = answer 0; state = s; taken = taken; written = written }
+
+-- "output shorter than 64 bytes", and "at least 64 output bytes are free before the byte"
+abbrev pub leastOutput : ℕ
+leastOutput = 64

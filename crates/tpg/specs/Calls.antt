@@ -16,7 +16,7 @@ use Rattle.shared.specs.Events.{taken as readingTaken}
 use Rattle.shared.specs.Limits.{serialWithin}
 use Rattle.shared.specs.Replies.{streamText}
 use Rattle.shared.specs.declared.Shared.{Shared}
-use Rattle.tpg.specs.Answers.{answer, handed, done}
+use Rattle.tpg.specs.Answers.{answer, handed, done, leastOutput}
 use Rattle.tpg.specs.States.{stateWithin, freshBox, cycled}
 use Rattle.tpg.specs.Steps.{after, said, taken}
 use Rattle.tpg.specs.declared.State.{State}
@@ -33,11 +33,11 @@ freshCall number serial = made (modelOf number) serial
 
 -- "the state handed in breaks a limit": 1; "output shorter than 64 bytes": 3
 unfoldable pub roomed : State → ℕ → Outcome → Outcome
-roomed s room accepted = cond (stateWithin s) (cond (leb 64 room) accepted (handed (answer 3) s)) (handed (answer 1) s)
+roomed s room accepted = cond (stateWithin s) (cond (leb leastOutput room) accepted (handed (answer 3) s)) (handed (answer 1) s)
 
 -- what such a call sends: a refusal sends nothing
 unfoldable pub roomedBytes : State → ℕ → List ℕ → List ℕ
-roomedBytes s room bytes = cond (stateWithin s && leb 64 room) bytes []
+roomedBytes s room bytes = cond (stateWithin s && leb leastOutput room) bytes []
 
 -- the host's bytes that are taken
 abbrev pub takenBytes : State → List ℕ → ℕ → List ℕ
@@ -51,10 +51,11 @@ hostText s input room = said s (takenBytes s input room)
 unfoldable pub hosted : State → List ℕ → ℕ → Outcome
 hosted s input room = done (after s (takenBytes s input room)) (taken s input room) (length (hostText s input room))
 
--- the call that takes host bytes, and what it sends
+-- the call that takes host bytes
 abbrev pub hostCall : State → List ℕ → ℕ → Outcome
 hostCall s input room = roomed s room (hosted s input room)
 
+-- and what it sends
 abbrev pub hostBytes : State → List ℕ → ℕ → List ℕ
 hostBytes s input room = roomedBytes s room (hostText s input room)
 
@@ -62,6 +63,7 @@ hostBytes s input room = roomedBytes s room (hostText s input room)
 abbrev pub dueText : Shared → Bool → List ℕ
 dueText s due = cond due (streamText s) []
 
+-- what one tick sends
 unfoldable pub tickText : State → List ℕ
 tickText s = dueText (s .shared) (ticked (s .port) .due)
 
@@ -69,10 +71,11 @@ tickText s = dueText (s .shared) (ticked (s .port) .due)
 unfoldable pub counted : State → Outcome
 counted s = done (record { shared = s .shared; port = ticked (s .port) .port }) 0 (length (tickText s))
 
--- the call that takes a tick, and what it sends
+-- the call that takes a tick
 abbrev pub tickCall : State → ℕ → Outcome
 tickCall s room = roomed s room (counted s)
 
+-- and what it sends
 abbrev pub tickBytes : State → ℕ → List ℕ
 tickBytes s room = roomedBytes s room (tickText s)
 

@@ -14,6 +14,7 @@ use Rattle.ports.specs.declared.Heard.{Heard}
 use Rattle.shared.specs.Events.{heard}
 use Rattle.shared.specs.Replies.{replyText}
 use Rattle.shared.specs.declared.Shared.{Shared}
+use Rattle.tpg.specs.Answers.{leastOutput}
 use Rattle.tpg.specs.declared.State.{State}
 
 -- "An accepted line sends ACK CR LF", "A refused one sends NAK CR LF"
@@ -44,18 +45,20 @@ acted s (Reply m error) = s
 abbrev pub hearing : State → ℕ → Heard
 hearing s b = portHeard (s .shared .model) (s .port) b
 
--- the state after one byte, and what is sent
+-- the state after one byte
 unfoldable pub next : State → ℕ → State
 next s b = record { shared = acted (s .shared) (hearing s b .event); port = hearing s b .port }
 
+-- what is sent for it
 unfoldable pub sent : State → ℕ → List ℕ
 sent s b = eventText (s .shared) (hearing s b .event)
 
--- the state after bytes, and all that is sent on the way
+-- the state after bytes, one after the other
 unfoldable pub after : State → List ℕ → State
 after s [] = s
 after s (b ∷ bs) = after (next s b) bs
 
+-- all that is sent for them
 unfoldable pub said : State → List ℕ → List ℕ
 said s [] = []
 said s (b ∷ bs) = sent s b ++ said (next s b) bs
@@ -63,7 +66,7 @@ said s (b ∷ bs) = sent s b ++ said (next s b) bs
 -- how many bytes are taken: "it goes on while input remains and at least 64 output bytes are free before the byte"
 unfoldable pub taken : State → List ℕ → ℕ → ℕ
 taken s [] free = 0
-taken s (b ∷ bs) free = cond (leb 64 free) (suc (taken (next s b) bs (free - length (sent s b)))) 0
+taken s (b ∷ bs) free = cond (leb leastOutput free) (suc (taken (next s b) bs (free - length (sent s b)))) 0
 
 -- the output at exit: "only the bytes it counts" are written, from its beginning on
 unfoldable pub over : List ℕ → List ℕ → List ℕ

@@ -3,7 +3,7 @@ ghost use mathlib.Core.Path.{_≡_};
 ghost use Prim.Native.Nat.{_≤_};
 ghost use lib.ListN.{length};
 ghost use Rattle.text.specs.Text.{empty, puts};
-ghost use Rattle.tpg.specs.Answers.{answer, handed};
+ghost use Rattle.tpg.specs.Answers.{answer, handed, leastOutput};
 ghost use Rattle.tpg.specs.States.{freshBox};
 ghost use Rattle.tpg.specs.Steps.{over};
 ghost use Rattle.tpg.specs.Calls.{freshCall, counted, dueText, tickText, tickCall, tickBytes, read, readingCall, cycleCall};
@@ -88,7 +88,7 @@ impl State {
 
     // The tick of a box that has room for a line of the stream.
     fn advance(self, out: &mut [u8]) -> Outcome
-        requires { ⌜ 64 ≤ length (now out) ⌝ }
+        requires { ⌜ leastOutput ≤ length (now out) ⌝ }
         ensures { λ r. ⌜ (r ≡ counted self) × (now (out .exit) ≡ over (tickText self) (now (out .entry))) ⌝ }
     {
         let shared = self.shared;
@@ -104,7 +104,7 @@ impl State {
         ensures { λ r. ⌜ (r ≡ tickCall self (length (now (out .entry)))) × (now (out .exit) ≡ over (tickBytes self (length (now (out .entry)))) (now (out .entry))) ⌝ }
     {
         if self.is_within() {
-            if out.len() < State::ROOM {
+            if out.len() < State::LEAST_OUTPUT {
                 return self.with_answer(Answer::ShortOutput);
             }
             return self.advance(out);

@@ -3,6 +3,7 @@ ghost use mathlib.Core.Path.{_≡_};
 ghost use Prim.Native.Nat.{_+_, _≤_};
 ghost use lib.ListN.{length};
 ghost use Rattle.text.specs.Text.{empty, puts};
+ghost use Rattle.tpg.specs.Answers.{leastOutput};
 ghost use Rattle.tpg.specs.Steps.{lineText, eventText, isLoud, acted, over, laidAt};
 ghost use Rattle.tpg.specs.Calls.{hosted, hostText, hostCall, hostBytes};
 use crate::State;
@@ -20,7 +21,7 @@ const ACK: u8 = 6;
 const NAK: u8 = 21;
 
 // The shared part after an event, and the place in the output behind what it sent.
-pub struct Turn {
+struct Turn {
     pub shared: Shared,
     pub at: usize,
 }
@@ -58,7 +59,7 @@ fn act(shared: Shared, event: Event) -> Shared
 
 // An event met: what it sends is laid into the output, and what it changes is changed.
 fn meet(shared: Shared, event: Event, out: &mut [u8], at: usize) -> Turn
-    requires { ⌜ at + 64 ≤ length (now out) ⌝ }
+    requires { ⌜ at + leastOutput ≤ length (now out) ⌝ }
     ensures { λ r. ⌜ (r ≡ record { shared = acted shared event; at = at + length (eventText shared event) }) × (now (out .exit) ≡ laidAt at (eventText shared event) (now (out .entry))) ⌝ }
 {
     let place = event_text(shared, event).copy(out, at);
@@ -90,7 +91,7 @@ impl State {
         let mut taken: usize = 0;
         let mut written: usize = 0;
         while taken < input.len() {
-            if out.len() - written < State::ROOM {
+            if out.len() - written < State::LEAST_OUTPUT {
                 return finished(shared, port, taken, written);
             }
             let model = shared.model;
@@ -114,7 +115,7 @@ impl State {
         ensures { λ r. ⌜ (r ≡ hostCall self (now (input .entry)) (length (now (out .entry)))) × (now (out .exit) ≡ over (hostBytes self (now (input .entry)) (length (now (out .entry)))) (now (out .entry))) ⌝ }
     {
         if self.is_within() {
-            if out.len() < State::ROOM {
+            if out.len() < State::LEAST_OUTPUT {
                 return self.with_answer(Answer::ShortOutput);
             }
             return self.run(input, out);

@@ -16,8 +16,8 @@ pub struct State {
 }
 
 impl State {
-    // the longest that anything sent can be: with less room free no byte is taken, and no tick
-    pub const ROOM: usize = 64;
+    // a call with a shorter output is refused, and no byte is taken with less of it free
+    pub const LEAST_OUTPUT: usize = 64;
 
     // Whether a box can be in it.
     pub fn is_within(self) -> bool

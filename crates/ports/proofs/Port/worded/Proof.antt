@@ -1,4 +1,3 @@
-
 use borrow.Author.Needs.{needs}
 use Rattle.ports.proofs.Port.worded.Statement.{statement}
 use Rattle.ports.proofs.Port.worded.Tie as tie

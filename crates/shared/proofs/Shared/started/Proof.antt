@@ -1,13 +1,9 @@
--- The callees give no reading and what each switching function starts with.
 use borrow.Author.Needs.{needs}
 use Rattle.shared.proofs.Shared.started.Statement.{statement}
 use Rattle.shared.proofs.Shared.started.Tie as tie
 
 none-requires : tie.Need-none-requires
 none-requires c κs = search needs
-
-none-requires-2 : tie.Need-none-requires-2
-none-requires-2 c κs = search needs
 
 element-copy-out-starts-on : tie.Need-element-copy-out-starts-on
 element-copy-out-starts-on c = search needs
@@ -34,14 +30,13 @@ starts-on-requires-4 : tie.Need-starts-on-requires-4
 starts-on-requires-4 c κs = search needs
 
 returns : tie.Need-returns
-returns c = rw (c .starts-on4 .ensures, c .before .starts-on3 .ensures, c .before .before .starts-on2 .ensures, c .before .before .before .starts-on .ensures, c .before .before .before .before .none2 .ensures, c .before .before .before .before .before .none .ensures)
+returns c = rw (c .starts-on4 .ensures, c .before .starts-on3 .ensures, c .before .before .starts-on2 .ensures, c .before .before .before .starts-on .ensures, c .before .before .before .before .none .ensures)
 
 pub started-spec : {M : Type 1} → statement M
 started-spec =
     tie.close
     (tie.spec
     none-requires
-    none-requires-2
     element-copy-out-starts-on
     starts-on-requires
     element-copy-out-starts-on-2

@@ -12,34 +12,22 @@ use Rattle.tpg.proofs.Sending.{due-length}
 use Rattle.tpg.proofs.Deciding.{ticked-on}
 use Rattle.tpg.proofs.State.advance.Statement.{statement}
 use Rattle.tpg.proofs.State.advance.Tie as tie
-use Rattle.tpg.proofs.State.advance.Reads as reads
-use Rattle.tpg.proofs.State.advance.Lts as lts
-use Rattle.ports.proofs.Port.tick.Reads as tick-reads
-use Rattle.text.proofs.Text.copy.Reads as copy-reads
-use Rattle.tpg.proofs.answers.finished.Reads as finished-reads
-use Rattle.tpg.proofs.calls.due_text.Reads as due-text-reads
 
--- src/calls.rt:96:13
 tick-requires : tie.Need-tick-requires
 tick-requires c κs = search needs
 
--- src/calls.rt:98:23
 due-text-requires : tie.Need-due-text-requires
 due-text-requires c κs = search needs
 
--- src/calls.rt:98:13
 copy-requires : tie.Need-copy-requires
 copy-requires c κs = search needs
 
--- src/calls.rt:99:9
 finished-requires : tie.Need-finished-requires
 finished-requires c κs = search needs
 
--- src/calls.rt:90:5
 same-length : tie.Need-same-length
 same-length c = search needs
 
--- src/calls.rt:90:5
 returns : tie.Need-returns
 returns c =
     let k = c .before .before .before in

@@ -5,6 +5,7 @@ use native.Mathlib.Omega.{arith}
 use borrow.Author.Needs.{needs}
 use denote.Ref.{now}
 use lib.ListN.{length}
+use Rattle.tpg.specs.Answers.{leastOutput}
 use Rattle.tpg.specs.declared.host.Turn.{Turn}
 use Rattle.tpg.proofs.Runs.{Going, start, loud, silent, ended, same-length as length-kept, taken-full, taken-end}
 use Rattle.tpg.proofs.State.run.Statement.{statement}
@@ -37,7 +38,7 @@ returns : tie.Need-returns Inv-loop μ-loop
 returns c =
     let l = c .before .before .before .loop in
     let g = l .inv in
-    let full : length (now (c .before .before .before .before .before .before .before .before .args .out)) - l .written < 64 = omega (arith, length-kept g, c .before .if1 .taken) in
+    let full : length (now (c .before .before .before .before .before .before .before .before .args .out)) - l .written < leastOutput = omega (arith, length-kept g, c .before .if1 .taken) in
     let e = ended g (taken-full _ _ _ full) in
     (c .finished .ensures ∙ e .0, e .1)
 
@@ -65,7 +66,7 @@ loop-again c =
     let l = b .before .before .before .before .loop in
     let g = l .inv in
     let m = c .before .before .before .meet in
-    let room : l .written + 64 ≤ length (now (b .before .before .before .before .before .before .before .before .before .args .out)) = omega (arith, g .inside, length-kept g, b .before .before .if1 .left) in
+    let room : l .written + leastOutput ≤ length (now (b .before .before .before .before .before .before .before .before .before .args .out)) = omega (arith, g .inside, length-kept g, b .before .before .if1 .left) in
     loud g (b .byte .result) (b .before .before .before .loop-test .taken) room (b .byte .ensures) _ _ _
     (ap (λ (x : Turn). x .shared) (m .ensures .0)) (m .ensures .1) (ap (λ (x : Turn). x .at) (m .ensures .0))
 
@@ -77,7 +78,7 @@ loop-again-2 c =
     let b = c .before .before .before in
     let l = b .before .before .before .before .loop in
     let g = l .inv in
-    let room : l .written + 64 ≤ length (now (b .before .before .before .before .before .before .before .before .before .args .out)) = omega (arith, g .inside, length-kept g, b .before .before .if1 .left) in
+    let room : l .written + leastOutput ≤ length (now (b .before .before .before .before .before .before .before .before .before .args .out)) = omega (arith, g .inside, length-kept g, b .before .before .if1 .left) in
     silent g (b .byte .result) (b .before .before .before .loop-test .taken) room (b .byte .ensures) (sym (c .before .is-loud .ensures) ∙ c .if2 .left)
 
 finished-requires-2 : tie.Need-finished-requires-2 Inv-loop μ-loop

@@ -1,4 +1,3 @@
-
 use borrow.Author.Needs.{needs}
 use Rattle.tpg.proofs.State.start.Statement.{statement}
 use Rattle.tpg.proofs.State.start.Tie as tie

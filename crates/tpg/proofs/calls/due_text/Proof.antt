@@ -1,4 +1,3 @@
-
 use borrow.Author.Needs.{needs}
 use Rattle.tpg.proofs.calls.due_text.Statement.{statement}
 use Rattle.tpg.proofs.calls.due_text.Tie as tie

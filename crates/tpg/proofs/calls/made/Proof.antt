@@ -1,4 +1,3 @@
-
 use borrow.Author.Needs.{needs}
 use Rattle.tpg.proofs.calls.made.Statement.{statement}
 use Rattle.tpg.proofs.calls.made.Tie as tie

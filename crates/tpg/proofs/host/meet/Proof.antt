@@ -4,6 +4,7 @@ use native.Mathlib.Omega.{arith}
 use Prim.Native.Nat.{_+_, _≤_}
 use denote.Ref.{now}
 use lib.ListN.{length}
+use Rattle.tpg.specs.Answers.{leastOutput}
 use Rattle.tpg.specs.Steps.{eventText}
 use Rattle.tpg.proofs.Laying.{copied}
 use Rattle.tpg.proofs.Sending.{event-length}
@@ -30,7 +31,7 @@ returns c =
     let st = d .before .before in
     let a = st .args in
     let text = eventText (a .shared) (a .event) in
-    let short : length text ≤ 64 = event-length (a .shared) (a .event) in
+    let short : length text ≤ leastOutput = event-length (a .shared) (a .event) in
     let room : a .at + length text ≤ length (now (a .out)) = omega (arith, st .pre) in
     let k = copied (d .event-text .result) text (now (a .out)) (a .at) (d .event-text .ensures) short room in
     let e = b .copy .ensures in

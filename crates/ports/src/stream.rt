@@ -10,7 +10,7 @@ use settings::rows::Row;
 const INTERVALS: [u32; 3] = [1, 10, 600];
 
 // The ticks from line to line in a mode; a number that is no mode streams nothing.
-pub fn interval_of(mode: u32) -> u32
+pub(crate) fn interval_of(mode: u32) -> u32
     ensures { λ r. ⌜ r ≡ intervalOf mode ⌝ }
 {
     let i = mode as usize;

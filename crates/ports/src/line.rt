@@ -1,7 +1,7 @@
 // The line of a host: gathered, spoilt, emptied, judged.
 ghost use mathlib.Core.Path.{_≡_};
 ghost use Rattle.lines.specs.Judging.{judged};
-ghost use Rattle.ports.specs.Line.{blank, withLine, emptied, spoilt, grown, held, isEmpty, heldCount};
+ghost use Rattle.ports.specs.Line.{withLine, emptied, spoilt, grown, held, isEmpty, heldCount};
 use crate::Port;
 use lines::judging::judge;
 use lines::verdict::Verdict;

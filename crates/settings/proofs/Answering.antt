@@ -2,7 +2,7 @@
 use Prim.Native.Nat.{ℕ, _≤_, _<_}
 use mathlib.Core.Path.{_≡_, refl, sym}
 use mathlib.Core.List.{List, [], _∷_}
-use mathlib.Core.Bool.{Bool, true, false, _&&_}
+use mathlib.Core.Bool.{true, false, _&&_}
 use mathlib.Core.Logic.{⊎-elim}
 use native.Mathlib.Omega.{arith}
 use borrow.Author.Tests.{lt-ltb, le-ltb}
@@ -23,7 +23,7 @@ use Rattle.settings.specs.declared.mnemonic.Query.the-variants.{Sps, Pr,
 use Rattle.settings.specs.declared.mnemonic.Mnemonic.{Mnemonic}
 use Rattle.settings.specs.declared.mnemonic.Mnemonic.the-variants.{Setting as Of, Cf, Query as Asked}
 use Rattle.settings.proofs.Lists.{each-map, every-each}
-use Rattle.settings.proofs.Names.{not-three}
+use Rattle.settings.proofs.Names.{and-end, and-no, not-three}
 
 -- ---- settings by their numbers
 
@@ -48,14 +48,6 @@ unfolding recognised known found same
 plain-known model = (refl, (refl, (refl, (refl, tt))))
 
 -- ---- what is there on the model
-
-and-end : (t : Bool) → t && true ≡ t
-and-end true = refl
-and-end false = refl
-
-and-no : (t : Bool) → t && false ≡ false
-and-no true = refl
-and-no false = refl
 
 channelled : (model : Model) (f : ℕ → Mnemonic) → listed (λ (k : ℕ). isKnown (recognised model (name (f k)))) 2 0 ≡ replicate 2 true
     → (k : ℕ) → ltb k (channels model) ≡ isKnown (recognised model (name (f k))) && (ltb k (channels model) && true)
@@ -82,8 +74,8 @@ query-answers model Err = channelled model (λ (k : ℕ). Asked Err) refl 0
 
 pub setting-answers : (model : Model) (x : Setting) → isKnown (recognised model (name (Of x))) ≡ answers model (Of x)
 unfolding answers
-setting-answers Tpg361 x = sym (and-end (isKnown (recognised Tpg361 (name (Of x)))))
-setting-answers Tpg362 x = sym (and-end (isKnown (recognised Tpg362 (name (Of x)))))
+setting-answers Tpg361 x = and-end (isKnown (recognised Tpg361 (name (Of x))))
+setting-answers Tpg362 x = and-end (isKnown (recognised Tpg362 (name (Of x))))
 
 pub no-answer : (model : Model) (m : Mnemonic) → hasReply m ≡ false → false ≡ answers model m
 unfolding answers

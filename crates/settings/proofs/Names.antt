@@ -49,7 +49,7 @@ spelling model i h =
     tabled (λ i. getD letters (i * 3) 0 ∷ getD letters (i * 3 + 1) 0 ∷ getD letters (i * 3 + 2) 0 ∷ []) 28 (map name (known model)) refl i (name (Of Uni)) h
     ∙ List·getD-map name (known model) i (Of Uni)
 
-and-end : (t : Bool) → t ≡ t && true
+pub and-end : (t : Bool) → t ≡ t && true
 and-end true = refl
 and-end false = refl
 
@@ -81,7 +81,7 @@ known-length model = refl
 
 -- ---- a word of another length names nothing
 
-and-no : (t : Bool) → t && false ≡ false
+pub and-no : (t : Bool) → t && false ≡ false
 and-no true = refl
 and-no false = refl
 

@@ -2,7 +2,6 @@
 ghost use mathlib.Core.Path.{_≡_};
 ghost use Rattle.text.specs.Text.{puts};
 ghost use Rattle.settings.specs.Models.{modelOf, channels, names, powerOnMode, startsOn, follows, agrees, defaults};
-ghost use Rattle.settings.specs.Mnemonics.{sheet};
 use crate::Settings;
 use crate::Switching;
 use numbers::threshold::Threshold;

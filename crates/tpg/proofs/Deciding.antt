@@ -1,10 +1,12 @@
 -- How a call with a lent output is decided, in the order of the paper's numbers, and what is then in the output.
-use Prim.Native.Nat.{ℕ, _-_, _≤_, _<_}
+use Prim.Native.Nat.{ℕ, _-_, _≤_}
 use mathlib.Core.Path.{_≡_, refl}
 use mathlib.Core.List.{List}
 use mathlib.Core.Bool.{true, false}
-use borrow.Author.Tests.{le-leb, lt-leb}
+use borrow.Author.Tests.{leb-true}
 use lib.ListN.{length}
+use lib.Dec.{leb}
+use Rattle.numbers.proofs.Cases.{and-true}
 use Rattle.gauges.specs.Readings.{withinLimits}
 use Rattle.gauges.specs.declared.reading.Reading.{Reading}
 use Rattle.ports.specs.Stream.{ticked}
@@ -12,22 +14,23 @@ use Rattle.ports.specs.declared.Ticked.{Ticked}
 use Rattle.tpg.specs.Answers.{answer, handed, done, leastOutput}
 use Rattle.tpg.specs.States.{stateWithin}
 use Rattle.tpg.specs.Steps.{over}
-use Rattle.tpg.specs.Calls.{roomed, roomedBytes, isChannel, read, readingCall, counted, dueText, tickText}
+use Rattle.tpg.specs.Calls.{admits, turnedAway, roomed, roomedBytes, isChannel, read, readingCall, counted, dueText, tickText}
 use Rattle.tpg.specs.declared.State.{State}
 use Rattle.tpg.specs.declared.answers.Outcome.{Outcome}
 
+-- room there is where a call is admitted
+pub roomy : (s : State) (room : ℕ) → admits s room ≡ true → leastOutput ≤ room
+unfolding admits
+roomy s room e = leb-true leastOutput room (and-true (stateWithin s) (leb leastOutput room) e .1)
+
 module _ (s : State) (o : Outcome) (bytes out : List ℕ) where
-  pub broken : stateWithin s ≡ false → (handed (answer 1) s ≡ roomed s (length out) o) × (out ≡ over (roomedBytes s (length out) bytes) out)
-  unfolding roomed roomedBytes over
-  broken e = rw e (refl, refl)
-
-  pub short : stateWithin s ≡ true → length out < leastOutput → (handed (answer 3) s ≡ roomed s (length out) o) × (out ≡ over (roomedBytes s (length out) bytes) out)
-  unfolding roomed roomedBytes over
-  short e h = rw (e, lt-leb leastOutput (length out) h) (refl, refl)
-
-  pub roomy : stateWithin s ≡ true → leastOutput ≤ length out → (o ≡ roomed s (length out) o) × (over bytes out ≡ over (roomedBytes s (length out) bytes) out)
+  pub admitted : admits s (length out) ≡ true → (o ≡ roomed s (length out) o) × (over bytes out ≡ over (roomedBytes s (length out) bytes) out)
   unfolding roomed roomedBytes
-  roomy e h = rw (e, le-leb leastOutput (length out) h) (refl, refl)
+  admitted e = rw e (refl, refl)
+
+  pub turned : admits s (length out) ≡ false → (turnedAway s ≡ roomed s (length out) o) × (out ≡ over (roomedBytes s (length out) bytes) out)
+  unfolding roomed roomedBytes over
+  turned e = rw e (refl, refl)
 
 -- and a reading
 module _ (s : State) (channel : ℕ) (r : Reading) where

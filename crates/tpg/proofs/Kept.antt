@@ -2,9 +2,8 @@
 use Prim.Native.Nat.{ℕ, _-_}
 use mathlib.Core.Path.{_≡_, refl, sym, subst}
 use mathlib.Core.List.{List, [], _∷_}
-use mathlib.Core.Bool.{true, cond}
+use mathlib.Core.Bool.{true}
 use native.Mathlib.Omega.{arith}
-use lib.Dec.{leb}
 use Rattle.gauges.specs.Readings.{withinLimits}
 use Rattle.gauges.specs.declared.reading.Reading.{Reading}
 use Rattle.numbers.proofs.Cases.{and-true, cond-cases, ranged}
@@ -25,10 +24,10 @@ use Rattle.shared.specs.Events.{taken as readingTaken, written, heard}
 use Rattle.shared.specs.Limits.{sharedWithin, serialWithin, Whole}
 use Rattle.shared.specs.declared.Shared.{Shared}
 use Rattle.shared.proofs.Kept as shared
-use Rattle.tpg.specs.Answers.{answer, handed, leastOutput}
+use Rattle.tpg.specs.Answers.{answer, handed}
 use Rattle.tpg.specs.States.{stateWithin, freshBox, cycled, Formed}
 use Rattle.tpg.specs.Steps.{acted, hearing, next, after}
-use Rattle.tpg.specs.Calls.{made, freshCall, roomed, takenBytes, hosted, hostCall, counted, tickCall, isChannel, read, readingCall, cycleCall}
+use Rattle.tpg.specs.Calls.{made, freshCall, admits, turnedAway, roomed, takenBytes, hosted, hostCall, counted, tickCall, isChannel, read, readingCall, cycleCall}
 use Rattle.tpg.specs.declared.State.{State}
 use Rattle.tpg.specs.declared.answers.Outcome.{Outcome}
 
@@ -113,10 +112,10 @@ fresh-call-sound n serial = by (modelOf n)
 
 module _ (s : State) (k : Sound s) where
   roomed-sound : (room : ℕ) (o : Outcome) → Sound (o .state) → Sound (roomed s room o .state)
-  unfolding roomed
+  unfolding roomed turnedAway
   roomed-sound room o h =
-      cond-cases (λ o. Sound (o .state)) (stateWithin s) (cond (leb leastOutput room) o (handed (answer 3) s)) (handed (answer 1) s)
-      (λ _. cond-cases (λ o. Sound (o .state)) (leb leastOutput room) o (handed (answer 3) s) (λ _. h) (λ _. k)) (λ _. k)
+      cond-cases (λ o. Sound (o .state)) (admits s room) o (turnedAway s) (λ _. h)
+      (λ _. cond-cases (λ o. Sound (o .state)) (stateWithin s) (handed (answer 3) s) (handed (answer 1) s) (λ _. k) (λ _. k))
 
   pub host-sound : (input : List ℕ) (room : ℕ) → Sound (hostCall s input room .state)
   unfolding hosted

@@ -2,17 +2,16 @@
 use Prim.Native.Nat.{ℕ, _-_}
 use mathlib.Core.Path.{_≡_, refl, ap}
 use mathlib.Core.List.{List, [], _∷_, map}
-use mathlib.Core.Bool.{Bool, true, false, cond, _&&_}
-use lib.Dec.{leb}
+use mathlib.Core.Bool.{Bool, true, false, cond}
 use Rattle.gauges.specs.Readings.{withinLimits}
 use Rattle.gauges.specs.declared.reading.Reading.{Reading}
 use Rattle.lines.specs.declared.verdict.Fault.{Fault}
 use Rattle.lines.specs.declared.verdict.Verdict.the-variants.{Refused}
 use Rattle.ports.specs.declared.Event.the-variants.{Line}
-use Rattle.tpg.specs.Answers.{number, table, answer, handed, leastOutput}
+use Rattle.tpg.specs.Answers.{number, table, answer, handed}
 use Rattle.tpg.specs.States.{stateWithin, cycled}
 use Rattle.tpg.specs.Steps.{acted, hearing, next, over}
-use Rattle.tpg.specs.Calls.{roomed, roomedBytes, isChannel, read, readingCall, cycleCall}
+use Rattle.tpg.specs.Calls.{admits, turnedAway, roomed, roomedBytes, isChannel, read, readingCall, cycleCall}
 use Rattle.tpg.specs.declared.State.{State}
 use Rattle.tpg.specs.declared.answers.Outcome.{Outcome}
 
@@ -28,14 +27,14 @@ module _ (s : State) where
   -- and, with an output, sends nothing
   pub roomed-back : (room : ℕ) (o : Outcome) (bytes : List ℕ) → o .answer ≡ answer 0
       → (number (roomed s room o .answer) ≡ 0 → ⊥) → (roomed s room o ≡ handed (roomed s room o .answer) s) × (roomedBytes s room bytes ≡ [])
-  unfolding roomed roomedBytes
-  roomed-back room o bytes e = by (stateWithin s) (leb leastOutput room)
+  unfolding roomed roomedBytes turnedAway
+  roomed-back room o bytes e = by (admits s room) (stateWithin s)
     where
-      by : (a b : Bool) → let r = cond a (cond b o (handed (answer 3) s)) (handed (answer 1) s) in
-          (number (r .answer) ≡ 0 → ⊥) → (r ≡ handed (r .answer) s) × (cond (a && b) bytes [] ≡ [])
-      by false b n = (refl, refl)
-      by true false n = (refl, refl)
-      by true true n = absurd (n (ap number e))
+      by : (a b : Bool) → let r = cond a o (cond b (handed (answer 3) s) (handed (answer 1) s)) in
+          (number (r .answer) ≡ 0 → ⊥) → (r ≡ handed (r .answer) s) × (cond a bytes [] ≡ [])
+      by false false n = (refl, refl)
+      by false true n = (refl, refl)
+      by true b n = absurd (n (ap number e))
 
   pub reading-back : (channel : ℕ) (r : Reading) → Back s (readingCall s channel r)
   unfolding readingCall

@@ -33,7 +33,7 @@ use Rattle.shared.specs.Limits.{sharedWithin}
 use Rattle.shared.specs.Replies.{perChannel, replyText, streamText}
 use Rattle.tpg.specs.States.{stateWithin, freshBox}
 use Rattle.tpg.specs.Steps.{eventText, next, sent, after, said, taken}
-use Rattle.tpg.specs.Calls.{roomed, roomedBytes, hosted, hostCall, hostBytes, tickText, counted, tickCall, tickBytes, readingCall, cycleCall}
+use Rattle.tpg.specs.Calls.{admits, turnedAway, roomed, roomedBytes, hosted, hostCall, hostBytes, tickText, counted, tickCall, tickBytes, readingCall, cycleCall}
 use Rattle.tpg.specs.declared.State.{State}
 
 -- a call on a box
@@ -131,5 +131,5 @@ rows =
     ∷ []
 
 pub rows-hold : map (λ (r : Row). sends (r .box) (r .calls)) rows ≡ map (λ (r : Row). r .got) rows
-unfolding bare less isBelow isAbove climbWithin five power rounded fittedTo scaledBy lead rest headIs value numberOf behindPoint factorOf afterPlus afterSign powerOf judgedNumeral fraction afterFraction thresholdOf scientific withinLimits switched every known same found recognised answers storedKinds within fields limited readings formed valued withFields judged settingText grown ticked kindOf concluded asked byKind heard lineWithin portWithin readingTaken written sharedWithin perChannel replyText streamText stateWithin eventText next sent after said taken roomed roomedBytes hosted tickText counted readingCall cycleCall
+unfolding bare less isBelow isAbove climbWithin five power rounded fittedTo scaledBy lead rest headIs value numberOf behindPoint factorOf afterPlus afterSign powerOf judgedNumeral fraction afterFraction thresholdOf scientific withinLimits switched every known same found recognised answers storedKinds within fields limited readings formed valued withFields judged settingText grown ticked kindOf concluded asked byKind heard lineWithin portWithin readingTaken written sharedWithin perChannel replyText streamText stateWithin eventText next sent after said taken admits turnedAway roomed roomedBytes hosted tickText counted readingCall cycleCall
 rows-hold = refl

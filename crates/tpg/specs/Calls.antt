@@ -31,13 +31,21 @@ made NoModel serial = handed (answer 2) (freshBox Tpg361 0)
 unfoldable pub freshCall : ℕ → ℕ → Outcome
 freshCall number serial = made (modelOf number) serial
 
--- "the state handed in breaks a limit": 1; "output shorter than 64 bytes": 3
+-- the state is within its limits, and the output not "shorter than 64 bytes"
+unfoldable pub admits : State → ℕ → Bool
+admits s room = stateWithin s && leb leastOutput room
+
+-- "the state handed in breaks a limit": 1; where it breaks none, the output is too short: 3
+unfoldable pub turnedAway : State → Outcome
+turnedAway s = cond (stateWithin s) (handed (answer 3) s) (handed (answer 1) s)
+
+-- a call with an output: what it answers where it is admitted, or the refusal
 unfoldable pub roomed : State → ℕ → Outcome → Outcome
-roomed s room accepted = cond (stateWithin s) (cond (leb leastOutput room) accepted (handed (answer 3) s)) (handed (answer 1) s)
+roomed s room accepted = cond (admits s room) accepted (turnedAway s)
 
 -- what such a call sends: a refusal sends nothing
 unfoldable pub roomedBytes : State → ℕ → List ℕ → List ℕ
-roomedBytes s room bytes = cond (stateWithin s && leb leastOutput room) bytes []
+roomedBytes s room bytes = cond (admits s room) bytes []
 
 -- the host's bytes that are taken
 abbrev pub takenBytes : State → List ℕ → ℕ → List ℕ

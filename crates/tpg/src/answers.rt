@@ -1,6 +1,7 @@
 // What a call answers: a number of the paper's table, the state, and its counts.
 ghost use mathlib.Core.Path.{_≡_};
 ghost use Rattle.tpg.specs.Answers.{handed, done};
+ghost use Rattle.tpg.specs.Calls.{admits, turnedAway};
 use crate::State;
 use ports::Port;
 use shared::Shared;
@@ -46,5 +47,21 @@ impl State {
             taken: 0,
             written: 0,
         }
+    }
+    // Whether a call with an output of so many bytes is admitted.
+    pub(crate) fn admits(self, room: usize) -> bool
+        ensures { λ r. ⌜ r ≡ admits self room ⌝ }
+    {
+        self.is_within() & (State::LEAST_OUTPUT <= room)
+    }
+
+    // The refusal of such a call: a broken state is told before a short output.
+    pub(crate) fn turned_away(self) -> Outcome
+        ensures { λ r. ⌜ r ≡ turnedAway self ⌝ }
+    {
+        if self.is_within() {
+            return self.with_answer(Answer::ShortOutput);
+        }
+        self.with_answer(Answer::BrokenState)
     }
 }

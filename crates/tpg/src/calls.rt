@@ -103,15 +103,13 @@ impl State {
     pub fn tick(self, out: &mut [u8]) -> Outcome
         ensures { λ r. ⌜ (r ≡ tickCall self (length (now (out .entry)))) × (now (out .exit) ≡ over (tickBytes self (length (now (out .entry)))) (now (out .entry))) ⌝ }
     {
-        if self.is_within() {
-            if out.len() < State::LEAST_OUTPUT {
-                return self.with_answer(Answer::ShortOutput);
-            }
+        if self.admits(out.len()) {
             return self.advance(out);
         }
-        self.with_answer(Answer::BrokenState)
+        self.turned_away()
     }
 
+    // Off and on again: the box starts with its saved set.
     pub fn power_cycle(self) -> Outcome
         ensures { λ r. ⌜ r ≡ cycleCall self ⌝ }
     {

@@ -7,7 +7,6 @@ ghost use Rattle.tpg.specs.Answers.{leastOutput};
 ghost use Rattle.tpg.specs.Steps.{lineText, eventText, isLoud, acted, over, laidAt};
 ghost use Rattle.tpg.specs.Calls.{hosted, hostText, hostCall, hostBytes};
 use crate::State;
-use crate::answers::Answer;
 use crate::answers::Outcome;
 use crate::answers::finished;
 use lines::replies::end_line;
@@ -114,12 +113,9 @@ impl State {
     pub fn host(self, input: &[u8], out: &mut [u8]) -> Outcome
         ensures { λ r. ⌜ (r ≡ hostCall self (now (input .entry)) (length (now (out .entry)))) × (now (out .exit) ≡ over (hostBytes self (now (input .entry)) (length (now (out .entry)))) (now (out .entry))) ⌝ }
     {
-        if self.is_within() {
-            if out.len() < State::LEAST_OUTPUT {
-                return self.with_answer(Answer::ShortOutput);
-            }
+        if self.admits(out.len()) {
             return self.run(input, out);
         }
-        self.with_answer(Answer::BrokenState)
+        self.turned_away()
     }
 }

@@ -1,27 +1,15 @@
--- The state and the room are tested in their order; then the run takes what there is room for.
+-- Bytes that are admitted are run over; any other call is turned away.
 use mathlib.Core.Path.{sym, _∙_}
 use borrow.Author.Needs.{needs}
 use denote.Ref.{now}
 use lib.ListN.{length}
 use Rattle.tpg.specs.Calls.{hosted, hostText}
-use Rattle.tpg.proofs.Deciding.{broken, short, roomy}
+use Rattle.tpg.proofs.Deciding.{admitted, turned}
 use Rattle.tpg.proofs.State.host.Statement.{statement}
 use Rattle.tpg.proofs.State.host.Tie as tie
 
-is-within-requires : tie.Need-is-within-requires
-is-within-requires c κs = search needs
-
-with-answer-requires : tie.Need-with-answer-requires
-with-answer-requires c κs = search needs
-
-returns : tie.Need-returns
-returns c =
-    let i = c .before .before .before in
-    let a = i .before .before .before .args in
-    let n = length (now (a .out)) in
-    let e = short (a .self) (hosted (a .self) (now (a .input)) n) (hostText (a .self) (now (a .input)) n) (now (a .out))
-    (sym (i .is-within .ensures) ∙ c .before .before .if1 .taken) (c .before .if2 .taken) in
-    (c .with-answer .ensures ∙ e .0, e .1)
+admits-requires : tie.Need-admits-requires
+admits-requires c κs = search needs
 
 run-requires : tie.Need-run-requires
 run-requires c κs = search needs
@@ -29,37 +17,28 @@ run-requires c κs = search needs
 same-length : tie.Need-same-length
 same-length c = search needs
 
-returns-2 : tie.Need-returns-2
-returns-2 c =
+returns : tie.Need-returns
+returns c =
     let k = c .before .before .before .before in
-    let i = k .before .before in
-    let a = i .before .before .before .args in
+    let a = k .before .before .before .before .args in
     let n = length (now (a .out)) in
-    let e = roomy (a .self) (hosted (a .self) (now (a .input)) n) (hostText (a .self) (now (a .input)) n) (now (a .out))
-    (sym (i .is-within .ensures) ∙ k .before .if1 .taken) (k .if2 .left) in
+    let e = admitted (a .self) (hosted (a .self) (now (a .input)) n) (hostText (a .self) (now (a .input)) n) (now (a .out))
+    (sym (k .before .admits .ensures) ∙ k .if1 .taken) in
     let r = c .before .before .run .ensures in
     (r .0 ∙ e .0, r .1 ∙ e .1)
 
-with-answer-requires-2 : tie.Need-with-answer-requires-2
-with-answer-requires-2 c κs = search needs
+turned-away-requires : tie.Need-turned-away-requires
+turned-away-requires c κs = search needs
 
-returns-3 : tie.Need-returns-3
-returns-3 c =
+returns-2 : tie.Need-returns-2
+returns-2 c =
     let a = c .before .before .before .before .before .args in
     let n = length (now (a .out)) in
-    let e = broken (a .self) (hosted (a .self) (now (a .input)) n) (hostText (a .self) (now (a .input)) n) (now (a .out))
-    (sym (c .before .before .is-within .ensures) ∙ c .before .if1 .left) in
-    (c .with-answer2 .ensures ∙ e .0, e .1)
+    let e = turned (a .self) (hosted (a .self) (now (a .input)) n) (hostText (a .self) (now (a .input)) n) (now (a .out))
+    (sym (c .before .before .admits .ensures) ∙ c .before .if1 .left) in
+    (c .turned-away .ensures ∙ e .0, e .1)
 
 pub host-spec : {M : Type 1} → statement M
 host-spec =
     tie.close
-    (tie.spec
-    is-within-requires
-    with-answer-requires
-    returns
-    run-requires
-    same-length
-    returns-2
-    with-answer-requires-2
-    returns-3)
+    (tie.spec admits-requires run-requires same-length returns turned-away-requires returns-2)

@@ -1,5 +1,5 @@
 -- A shown value is the nearest to the exact one in every unit, is a number that two exponent digits write, and switches on good data alone.
-use Prim.Native.Nat.{ℕ, _+_, _*_, _≤_}
+use Prim.Native.Nat.{ℕ, _*_, _≤_}
 use mathlib.Core.Path.{_≡_, refl, sym, ap, ap₂, _∙_}
 use mathlib.Core.Bool.{Bool, true, false, cond, false≢true, _&&_}
 use mathlib.Core.Logic.{_⊎_, inl, inr, ⊎-elim}
@@ -7,10 +7,9 @@ use native.Mathlib.Omega.{arith}
 use borrow.Author.Tests.{le-leb, leb-true, eqb-true}
 use lib.Dec.{eqb, leb}
 use lib.IntN.{pos, negsuc, natAbs, _-ℤ_}
-use lib.ListN.{length, length-append}
+use lib.ListN.{length}
 use Rattle.text.specs.Text.{ascii}
-use Rattle.text.specs.Digits.{wholeText, bare}
-use Rattle.text.proofs.Tables.{everywhere}
+use Rattle.text.proofs.Texts.{whole-digit}
 use Rattle.numbers.specs.Numbers.{between, isZero, isFive, isNumber, isBelow, isAbove, signed}
 use Rattle.numbers.specs.Rounding.{isUsable, scaledBy, Nearest}
 use Rattle.numbers.specs.declared.threshold.Threshold.{Threshold}
@@ -86,11 +85,10 @@ module _ (r : Reading) (unit : ℕ) (h : withinLimits r ≡ true) where
 
   -- with its status of one digit it makes thirteen bytes
   pub shown-length : length (shownText (shownOf r unit)) ≡ 13
-  unfolding bare scientific
+  unfolding scientific
   shown-length =
       let six = leb-true (r .status) 6 (and-true (leb (r .kind) 7) (leb (r .status) 6) (known r h) .1) in
-      let one = eqb-true _ _ (everywhere (λ (n : ℕ). eqb (length (wholeText n)) 1) 7 refl (r .status) (omega arith)) in
-      length-append (wholeText (r .status)) _ ∙ ap (λ (n : ℕ). n + 12) one
+      rw (whole-digit (r .status) (omega arith))
 
 on-tests : (good low high was : Bool) → cond good (cond low true (cond high false was)) false ≡ true
     → (good ≡ true) × ((low ≡ true) ⊎ (was ≡ true))

@@ -1,6 +1,7 @@
 // What is shown of a reading in the unit chosen: its text, and the switching by it.
 ghost use mathlib.Core.Path.{_≡_};
 ghost use Rattle.text.specs.Text.{puts};
+ghost use Rattle.text.specs.Digits.{wholeText};
 ghost use Rattle.gauges.specs.Shown.{inHpa, shownOf, shownText, switched};
 use crate::reading::Reading;
 use crate::units::from_hpa;
@@ -56,9 +57,19 @@ impl Shown {
     }
 }
 
+// The status as a whole number; one digit is put as it is, without a search for leading zeros.
+fn write_status(t: Text, status: u8) -> Text
+    ensures { λ r. ⌜ r ≡ puts t (wholeText status) ⌝ }
+{
+    if status < 10 {
+        return t.put(b'0' + status);
+    }
+    t.whole(status as u32)
+}
+
 // The text with a shown reading put behind it.
 pub fn write_shown(t: Text, s: Shown) -> Text
     ensures { λ r. ⌜ r ≡ puts t (shownText s) ⌝ }
 {
-    write_value(t.whole(s.status as u32).put(b','), s.value)
+    write_value(write_status(t, s.status).put(b','), s.value)
 }

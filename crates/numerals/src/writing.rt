@@ -6,6 +6,7 @@ use numbers::signs::magnitude;
 use numbers::threshold::Threshold;
 use numbers::value::Value;
 use text::Text;
+use text::digits::digit_at;
 
 fn sign_byte(z: i32) -> u8
     ensures { λ r. ⌜ r ≡ signByte z ⌝ }
@@ -17,12 +18,21 @@ fn sign_byte(z: i32) -> u8
 fn scientific(t: Text, m: u32, e: i32) -> Text
     ensures { λ r. ⌜ r ≡ puts t (scientific m e) ⌝ }
 {
-    t.padded(m / 10000, 1)
-        .put(b'.')
-        .padded(m, 4)
-        .put(b'E')
-        .put(sign_byte(e))
-        .padded(magnitude(e), 2)
+    let x = magnitude(e);
+    t.append(
+        &[
+            digit_at(m, 4),
+            b'.',
+            digit_at(m, 3),
+            digit_at(m, 2),
+            digit_at(m, 1),
+            digit_at(m, 0),
+            b'E',
+            sign_byte(e),
+            digit_at(x, 1),
+            digit_at(x, 0),
+        ],
+    )
 }
 
 // The text with the threshold put behind it.

@@ -37,7 +37,7 @@ use Rattle.lines.specs.Splitting.{joined}
 use Rattle.lines.specs.Fields.{write}
 use Rattle.lines.specs.Replies.{texts, settingText, lineEnd}
 use Rattle.lines.specs.declared.word.Word.{Word}
-use Rattle.shared.specs.Replies.{readingAt, shownAt, kindAt, perChannel, serialText, queryText, replyText, streamText}
+use Rattle.shared.specs.Replies.{readingAt, shownAt, kindAt, perChannel, serialText, readingsText, queryText, replyText, streamText}
 use Rattle.shared.specs.declared.Shared.{Shared}
 
 -- ---- numbers
@@ -116,17 +116,17 @@ ended : (t : List ℕ) → length t ≤ 62 → length (t ++ lineEnd) ≤ 64
 ended t h = omega (arith, length-append t lineEnd)
 
 module _ (s : Shared) where
-  shown-one : (k : ℕ) → length (shownAt s k) ≤ 22
+  shown-one : (k : ℕ) → length (shownAt (s .settings .unit) (s .readings) k) ≤ 22
   shown-one k = shown-short (shownOf (readingAt (s .readings) k) (s .settings .unit))
 
-  shown-all : length (perChannel (s .model) (shownAt s)) ≤ 62
-  shown-all = omega (arith, channel-short (s .model) 22 (shownAt s) shown-one)
+  shown-all : length (readingsText s) ≤ 62
+  shown-all = omega (arith, channel-short (s .model) 22 (shownAt (s .settings .unit) (s .readings)) shown-one)
 
   query-short : (error : Word) (q : Query) → length (queryText s error q) ≤ 62
   query-short error Sps = omega arith
   query-short error (Pr k) = omega (arith, shown-one k)
   query-short error Prx = shown-all
-  query-short error Tid = omega (arith, channel-short (s .model) 7 (kindAt s) (λ k. kind-short (readingAt (s .readings) k .kind)))
+  query-short error Tid = omega (arith, channel-short (s .model) 7 (kindAt (s .readings)) (λ k. kind-short (readingAt (s .readings) k .kind)))
   query-short error Ayt = omega (arith, serial-length (s .model) (s .serial))
   query-short error Err = omega arith
 
@@ -140,4 +140,4 @@ module _ (s : Shared) where
 
   pub stream-length : length (streamText s) ≤ 64
   unfolding streamText
-  stream-length = ended (perChannel (s .model) (shownAt s)) shown-all
+  stream-length = ended (readingsText s) shown-all

@@ -28,12 +28,12 @@ abbrev pub readingAt : List Reading → ℕ → Reading
 readingAt rs k = getD rs k noReading
 
 -- "status, comma, sign .., d.ddddE, sign, two digits", in the unit chosen
-abbrev pub shownAt : Shared → ℕ → List ℕ
-shownAt s k = shownText (shownOf (readingAt (s .readings) k) (s .settings .unit))
+abbrev pub shownAt : ℕ → List Reading → ℕ → List ℕ
+shownAt unit rs k = shownText (shownOf (readingAt rs k) unit)
 
 -- "the name of each channel's kind"
-abbrev pub kindAt : Shared → ℕ → List ℕ
-kindAt s k = kindName (readingAt (s .readings) k .kind)
+abbrev pub kindAt : List Reading → ℕ → List ℕ
+kindAt rs k = kindName (readingAt rs k .kind)
 
 -- "each the model has", commas between
 unfoldable pub perChannel : Model → (ℕ → List ℕ) → List ℕ
@@ -47,12 +47,16 @@ switchesText on = joined (map (λ (b : Bool). digit b ∷ []) (eachFour (λ i. g
 abbrev pub serialText : Model → ℕ → List ℕ
 serialText model serial = names model ++ (code "," ∷ (paddedText serial 8 ++ ascii ",010100,010100"))
 
+-- "PRX and the stream: each the model has"
+abbrev pub readingsText : Shared → List ℕ
+readingsText s = perChannel (s .model) (shownAt (s .settings .unit) (s .readings))
+
 -- the replies of those that take no field; ERR sends the error word
 abbrev pub queryText : Shared → Word → Query → List ℕ
 queryText s error Sps = switchesText (s .switches)
-queryText s error (Pr k) = shownAt s k
-queryText s error Prx = perChannel (s .model) (shownAt s)
-queryText s error Tid = perChannel (s .model) (kindAt s)
+queryText s error (Pr k) = shownAt (s .settings .unit) (s .readings) k
+queryText s error Prx = readingsText s
+queryText s error Tid = perChannel (s .model) (kindAt (s .readings))
 queryText s error Ayt = serialText (s .model) (s .serial)
 queryText s error Err = wordText error
 
@@ -64,6 +68,6 @@ replyText s error (Asked q) = queryText s error q ++ lineEnd
 replyText s error Com = []
 replyText s error Sav = []
 
--- "PRX and the stream: each the model has"
+-- a line of the stream, "then CR LF"
 unfoldable pub streamText : Shared → List ℕ
-streamText s = perChannel (s .model) (shownAt s) ++ lineEnd
+streamText s = readingsText s ++ lineEnd

@@ -14,6 +14,7 @@ use lines::word::write_digit;
 use lines::word::write_word;
 use settings::mnemonic::Mnemonic;
 use settings::mnemonic::Query;
+use settings::model::Model;
 use text::Text;
 
 const VERSIONS: [u8; 14] = *b",010100,010100";
@@ -40,68 +41,66 @@ fn write_switches(t: Text, on: [bool; 4]) -> Text
     write_digit(c.put(b','), on[3])
 }
 
+// The reading of one channel.
+fn write_reading(t: Text, unit: u32, readings: [Reading; 2], k: u8) -> Text
+    ensures { λ r. ⌜ r ≡ puts t (shownAt unit readings k) ⌝ }
+{
+    let r = reading_at(readings, k);
+    write_shown(t, r.shown(unit))
+}
+
+// The readings of all channels.
+fn write_readings(t: Text, model: Model, unit: u32, readings: [Reading; 2]) -> Text
+    ensures { λ r. ⌜ r ≡ puts t (perChannel model (shownAt unit readings)) ⌝ }
+{
+    let first = write_reading(t, unit, readings, 0);
+    if 1 < model.channels() {
+        return write_reading(first.put(b','), unit, readings, 1);
+    }
+    first
+}
+
+// The kind of gauge of one channel.
+fn write_kind_at(t: Text, readings: [Reading; 2], k: u8) -> Text
+    ensures { λ r. ⌜ r ≡ puts t (kindAt readings k) ⌝ }
+{
+    let r = reading_at(readings, k);
+    write_kind(t, r.kind)
+}
+
+// The kinds of gauge of all channels.
+fn write_kinds(t: Text, model: Model, readings: [Reading; 2]) -> Text
+    ensures { λ r. ⌜ r ≡ puts t (perChannel model (kindAt readings)) ⌝ }
+{
+    let first = write_kind_at(t, readings, 0);
+    if 1 < model.channels() {
+        return write_kind_at(first.put(b','), readings, 1);
+    }
+    first
+}
+
+fn write_identity(t: Text, model: Model, serial: u32) -> Text
+    ensures { λ r. ⌜ r ≡ puts t (serialText model serial) ⌝ }
+{
+    let a = model.write_names(t).put(b',');
+    a.padded(serial, SERIAL_DIGITS).append(&VERSIONS)
+}
+
 impl Shared {
-    fn write_reading(self, t: Text, k: u8) -> Text
-        ensures { λ r. ⌜ r ≡ puts t (shownAt self k) ⌝ }
-    {
-        let settings = self.settings;
-        let readings = self.readings;
-        let r = reading_at(readings, k);
-        write_shown(t, r.shown(settings.unit))
-    }
-
-    fn write_kind_at(self, t: Text, k: u8) -> Text
-        ensures { λ r. ⌜ r ≡ puts t (kindAt self k) ⌝ }
-    {
-        let readings = self.readings;
-        let r = reading_at(readings, k);
-        write_kind(t, r.kind)
-    }
-
-    // The readings of all channels.
-    fn write_readings(self, t: Text) -> Text
-        ensures { λ r. ⌜ r ≡ puts t (perChannel (self .model) (shownAt self)) ⌝ }
-    {
-        let model = self.model;
-        let first = self.write_reading(t, 0);
-        if 1 < model.channels() {
-            return self.write_reading(first.put(b','), 1);
-        }
-        first
-    }
-
-    // The kinds of gauge of all channels.
-    fn write_kinds(self, t: Text) -> Text
-        ensures { λ r. ⌜ r ≡ puts t (perChannel (self .model) (kindAt self)) ⌝ }
-    {
-        let model = self.model;
-        let first = self.write_kind_at(t, 0);
-        if 1 < model.channels() {
-            return self.write_kind_at(first.put(b','), 1);
-        }
-        first
-    }
-
-    fn write_identity(self, t: Text) -> Text
-        ensures { λ r. ⌜ r ≡ puts t (serialText (self .model) (self .serial)) ⌝ }
-    {
-        let model = self.model;
-        let a = model.write_names(t).put(b',');
-        a.padded(self.serial, SERIAL_DIGITS).append(&VERSIONS)
-    }
-
     fn write_query(self, t: Text, q: Query, error: Word) -> Text
         ensures { λ r. ⌜ r ≡ puts t (queryText self error q) ⌝ }
     {
+        let model = self.model;
+        let readings = self.readings;
         match q {
             Query::Sps => {
                 let on = self.switches;
                 write_switches(t, on)
             }
-            Query::Pr(k) => self.write_reading(t, k),
-            Query::Prx => self.write_readings(t),
-            Query::Tid => self.write_kinds(t),
-            Query::Ayt => self.write_identity(t),
+            Query::Pr(k) => write_reading(t, self.settings.unit, readings, k),
+            Query::Prx => write_readings(t, model, self.settings.unit, readings),
+            Query::Tid => write_kinds(t, model, readings),
+            Query::Ayt => write_identity(t, model, self.serial),
             Query::Err => write_word(t, error),
         }
     }
@@ -125,6 +124,9 @@ impl Shared {
     pub fn stream_line(self) -> Text
         ensures { λ r. ⌜ r ≡ puts empty (streamText self) ⌝ }
     {
-        end_line(self.write_readings(Text::empty()))
+        let model = self.model;
+        let readings = self.readings;
+        let t = write_readings(Text::empty(), model, self.settings.unit, readings);
+        end_line(t)
     }
 }

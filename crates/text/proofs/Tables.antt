@@ -24,6 +24,10 @@ module _ {A : Type 0} where
   pub tabled : (f : ℕ → A) (n : ℕ) (l : List A) → listed f n 0 ≡ l → (k : ℕ) (d : A) → k < n → f k ≡ getD l k d
   tabled f n l e k d h = sym (listed-at f n 0 k d h ∙ ap f (zero-add k)) ∙ ap (λ (m : List A). getD m k d) e
 
+  -- two rules that give the same at all n places give the same at each
+  pub alike : (f g : ℕ → A) (n : ℕ) → listed f n 0 ≡ listed g n 0 → (k : ℕ) → k < n → f k ≡ g k
+  alike f g n e k h = tabled f n (listed g n 0) e k (f k) h ∙ sym (tabled g n (listed g n 0) refl k (f k) h)
+
   -- an entry does not depend on what stands for a missing one
   pub entry : (l : List A) (d e : A) (k : ℕ) → k < length l → getD l k d ≡ getD l k e
   entry [] d e k h = absurd (not-suc-le-zero h)

@@ -6,17 +6,31 @@ use mathlib.Core.Bool.{Bool, true, false, cond, _&&_}
 use native.Mathlib.Omega.{arith}
 use native.Mathlib.Nat.{suc-add, zero-add}
 use native.Mathlib.Numerals.{add-one}
-use borrow.Author.Tests.{lt-ltb, le-leb, lt-leb, eq-eqb, ne-eqb}
+use borrow.Author.Tests.{lt-ltb, le-ltb, le-leb, lt-leb, eq-eqb, ne-eqb}
 use lib.Dec.{eqb}
 use lib.ListN.{length, getD, set, take, drop, length-set, length-append, length-drop, drop-of-length-le}
 use lib.Seq.{paste, drop-cons, take-suc-set}
-use Rattle.text.specs.Digits.{dig, bare}
+use Rattle.text.specs.Digits.{dig, bare, wholeText}
 use Rattle.text.specs.Text.{empty, put, puts, lands, laid, after}
 use Rattle.text.specs.declared.Text.{Text}
+use Rattle.text.proofs.Tables.{alike}
 
 pub puts-append : (t : Text) (xs ys : List ℕ) → puts t (xs ++ ys) ≡ puts (puts t xs) ys
 puts-append t [] ys = refl
 puts-append t (x ∷ xs) ys = puts-append (put t x) xs ys
+
+-- ---- one byte more where there is a place for it
+
+abbrev more : Text → ℕ → Text
+more t b = record { bytes = set (t .bytes) (t .len) b; len = t .len + 1 }
+
+pub put-more : (t : Text) (b : ℕ) → t .len < 64 → put t b ≡ more t b
+unfolding put
+put-more t b h = simp (lt-ltb _ _ h)
+
+pub put-full : (t : Text) (b : ℕ) → 64 ≤ t .len → put t b ≡ t
+unfolding put
+put-full t b h = simp (le-ltb _ _ h)
 
 -- ---- laid into an output
 
@@ -59,13 +73,6 @@ pub record Holds (t : Text) (xs : List ℕ) : Type 0 where
   pub count : t .len ≡ length xs
   pub front : take (t .len) (t .bytes) ≡ xs
   pub whole : length (t .bytes) ≡ 64
-
-abbrev more : Text → ℕ → Text
-more t b = record { bytes = set (t .bytes) (t .len) b; len = t .len + 1 }
-
-put-more : (t : Text) (b : ℕ) → t .len < 64 → put t b ≡ more t b
-unfolding put
-put-more t b h = simp (lt-ltb _ _ h)
 
 more-holds : (t : Text) (xs : List ℕ) (b : ℕ) → Holds t xs → length xs < 64 → Holds (more t b) (xs ++ b ∷ [])
 more-holds t xs b h low =
@@ -114,3 +121,8 @@ bare-last d i e =
     go : (t : Bool) → getD d i 0 ∷ [] ≡ cond (t && false) [] (getD d i 0 ∷ [])
     go true = refl
     go false = refl
+
+-- a number of one digit is that digit
+pub whole-digit : (n : ℕ) → n < 10 → wholeText n ≡ (48 + n) ∷ []
+unfolding bare
+whole-digit = alike wholeText (λ (n : ℕ). (48 + n) ∷ []) 10 refl

@@ -1,17 +1,32 @@
 // Numbers put into a text by their digits: whole numbers, numbers of fixed width, factors.
 ghost use mathlib.Core.Path.{_≡_};
-ghost use Prim.Native.Nat.{_≤_, _<_, _+_, _/_, _%_};
+ghost use Prim.Native.Nat.{_≤_, _<_, _+_, _/_, _%_, _^_};
 ghost use lib.ListN.{drop};
 ghost use Rattle.text.specs.Text.{puts};
 ghost use Rattle.text.specs.Digits.{dig, wholeText, paddedText, factorText};
 use crate::Text;
 
-// The digit of n at the place of p, a power of ten.
-fn place(n: u32, p: u32) -> u8
-    requires { ⌜ 0 < p ⌝ }
-    ensures { λ r. ⌜ r ≡ 48 + n / p % 10 ⌝ }
+const POWERS: [u32; 10] = [
+    1,
+    10,
+    100,
+    1000,
+    10000,
+    100000,
+    1000000,
+    10000000,
+    100000000,
+    1000000000,
+];
+
+// The digit of n with k digits behind it; a number has ten at most.
+pub fn digit_at(n: u32, k: usize) -> u8
+    ensures { λ r. ⌜ r ≡ 48 + n / 10 ^ k % 10 ⌝ }
 {
-    (48 + n / p % 10) as u8
+    if k < 10 {
+        return (48 + n / POWERS[k] % 10) as u8;
+    }
+    48
 }
 
 // All digits that a number can have, the highest first.
@@ -19,16 +34,16 @@ fn digits_of(n: u32) -> [u8; 10]
     ensures { λ r. ⌜ r ≡ dig 10 n ⌝ }
 {
     [
-        place(n, 1000000000),
-        place(n, 100000000),
-        place(n, 10000000),
-        place(n, 1000000),
-        place(n, 100000),
-        place(n, 10000),
-        place(n, 1000),
-        place(n, 100),
-        place(n, 10),
-        place(n, 1),
+        digit_at(n, 9),
+        digit_at(n, 8),
+        digit_at(n, 7),
+        digit_at(n, 6),
+        digit_at(n, 5),
+        digit_at(n, 4),
+        digit_at(n, 3),
+        digit_at(n, 2),
+        digit_at(n, 1),
+        digit_at(n, 0),
     ]
 }
 

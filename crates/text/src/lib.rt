@@ -5,7 +5,7 @@ ghost use lib.ListN.{length};
 ghost use lib.Seq.{paste};
 ghost use Rattle.text.specs.Text.{empty, put, puts, laid, after};
 
-mod digits;
+pub mod digits;
 
 pub struct Text {
     pub bytes: [u8; 64],
@@ -47,7 +47,11 @@ impl Text {
         let mut t = self;
         let mut i: usize = 0;
         while i < s.len() {
-            t = t.put(s[i]);
+            let at = t.len;
+            if at < Text::PLACES {
+                t.bytes[at] = s[i];
+                t.len = at + 1;
+            }
             i += 1;
         }
         t

@@ -4,11 +4,8 @@ use borrow.Author.Needs.{needs}
 use Rattle.gauges.proofs.shown.write_shown.Statement.{statement}
 use Rattle.gauges.proofs.shown.write_shown.Tie as tie
 
-cast-whole : tie.Need-cast-whole
-cast-whole c = search needs
-
-whole-requires : tie.Need-whole-requires
-whole-requires c κs = search needs
+write-status-requires : tie.Need-write-status-requires
+write-status-requires c κs = search needs
 
 put-requires : tie.Need-put-requires
 put-requires c κs = search needs
@@ -17,8 +14,8 @@ write-value-requires : tie.Need-write-value-requires
 write-value-requires c κs = search needs
 
 returns : tie.Need-returns
-returns c = rw (c .write-value .ensures, c .before .put .ensures, c .before .before .whole .ensures, puts-append)
+returns c = rw (c .write-value .ensures, c .before .put .ensures, c .before .before .write-status .ensures, puts-append)
 
 pub write-shown-spec : {M : Type 1} → statement M
 write-shown-spec =
-    tie.close (tie.spec cast-whole whole-requires put-requires write-value-requires returns)
+    tie.close (tie.spec write-status-requires put-requires write-value-requires returns)

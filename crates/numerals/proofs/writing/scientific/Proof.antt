@@ -1,5 +1,7 @@
--- `writing::scientific`: one digit, the point, four digits, E, the sign and two digits, put one after the other.
+-- `writing::scientific`: the bytes of the array are those of the text; its first digit is the last one of m / 10000 (`div-one`).
+use Prim.Native.Nat.{_/_}
 use mathlib.Core.Path.{ap, _∙_}
+use native.Mathlib.Nat.{div-one}
 use lib.IntN.{natAbs}
 use mir.Facts.{toZ-ofZ}
 use Rattle.numerals.specs.Writing.{scientific, signByte}
@@ -7,57 +9,73 @@ use borrow.Author.Needs.{needs}
 use Rattle.numerals.proofs.writing.scientific.Statement.{statement}
 use Rattle.numerals.proofs.writing.scientific.Tie as tie
 
-padded-requires : tie.Need-padded-requires
-padded-requires c κs = search needs
+magnitude-requires : tie.Need-magnitude-requires
+magnitude-requires c κs = search needs
 
-put-requires : tie.Need-put-requires
-put-requires c κs = search needs
+digit-at-requires : tie.Need-digit-at-requires
+digit-at-requires c κs = search needs
 
-padded-requires-2 : tie.Need-padded-requires-2
-padded-requires-2 c κs = search needs
+digit-at-requires-2 : tie.Need-digit-at-requires-2
+digit-at-requires-2 c κs = search needs
 
-put-requires-2 : tie.Need-put-requires-2
-put-requires-2 c κs = search needs
+digit-at-requires-3 : tie.Need-digit-at-requires-3
+digit-at-requires-3 c κs = search needs
+
+digit-at-requires-4 : tie.Need-digit-at-requires-4
+digit-at-requires-4 c κs = search needs
+
+digit-at-requires-5 : tie.Need-digit-at-requires-5
+digit-at-requires-5 c κs = search needs
 
 sign-byte-requires : tie.Need-sign-byte-requires
 sign-byte-requires c κs = search needs
 
-put-requires-3 : tie.Need-put-requires-3
-put-requires-3 c κs = search needs
+digit-at-requires-6 : tie.Need-digit-at-requires-6
+digit-at-requires-6 c κs = search needs
 
-magnitude-requires : tie.Need-magnitude-requires
-magnitude-requires c κs = search needs
+digit-at-requires-7 : tie.Need-digit-at-requires-7
+digit-at-requires-7 c κs = search needs
 
-padded-requires-3 : tie.Need-padded-requires-3
-padded-requires-3 c κs = search needs
+slice-aggregate-append : tie.Need-slice-aggregate-append
+slice-aggregate-append c = search needs
+
+append-requires : tie.Need-append-requires
+append-requires c κs = search needs
 
 returns : tie.Need-returns
 unfolding scientific
 returns c =
-    let f = c .before .before .before .before .before .before .before .before .fits .e in
-    let m = c .before .magnitude .ensures ∙ ap natAbs (toZ-ofZ f) in
-    let s = c .before .before .before .sign-byte .ensures ∙ ap signByte (toZ-ofZ f) in
+    let a = c .before .before .before .before .before .before .before .before .before .before .before .args in
+    let f = c .before .before .before .before .before .before .before .before .before .before .before .fits .e in
+    let m = c .before .before .before .before .before .before .before .before .before .before .magnitude .ensures ∙ ap natAbs (toZ-ofZ f) in
+    let s = c .before .before .before .before .sign-byte .ensures ∙ ap signByte (toZ-ofZ f) in
     rw (
-      c .padded3 .ensures,
+      c .append .ensures,
+      c .before .before .digit-at7 .ensures,
+      c .before .before .before .digit-at6 .ensures,
       m,
-      c .before .before .put3 .ensures,
       s,
-      c .before .before .before .before .put2 .ensures,
-      c .before .before .before .before .before .padded2 .ensures,
-      c .before .before .before .before .before .before .put .ensures,
-      c .before .before .before .before .before .before .before .padded .ensures,
+      c .before .before .before .before .before .digit-at5 .ensures,
+      c .before .before .before .before .before .before .digit-at4 .ensures,
+      c .before .before .before .before .before .before .before .digit-at3 .ensures,
+      c .before .before .before .before .before .before .before .before .digit-at2 .ensures,
+      c .before .before .before .before .before .before .before .before .before .digit-at .ensures,
+      div-one (a .m / 10000),
     )
 
 pub scientific-spec : {M : Type 1} → statement M
 scientific-spec =
     tie.close
     (tie.spec
-    padded-requires
-    put-requires
-    padded-requires-2
-    put-requires-2
-    sign-byte-requires
-    put-requires-3
     magnitude-requires
-    padded-requires-3
+    digit-at-requires
+    digit-at-requires-2
+    digit-at-requires-3
+    digit-at-requires-4
+    digit-at-requires-5
+    sign-byte-requires
+    digit-at-requires-6
+    digit-at-requires-7
+    slice-aggregate-append
+    append-requires
     returns)

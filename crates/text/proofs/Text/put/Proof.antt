@@ -1,6 +1,6 @@
 -- `Text::put`: one more byte where there is a place for it.
-use borrow.Author.Tests.{lt-ltb, le-ltb}
-use Rattle.text.specs.Text.{put}
+use mathlib.Core.Path.{sym}
+use Rattle.text.proofs.Texts.{put-more, put-full}
 use borrow.Author.Needs.{needs}
 use Rattle.text.proofs.Text.put.Statement.{statement}
 use Rattle.text.proofs.Text.put.Tie as tie
@@ -12,12 +12,10 @@ add-t : tie.Need-add-t
 add-t c = search needs
 
 returns : tie.Need-returns
-unfolding put
-returns c = simp (lt-ltb _ _ (c .if1 .taken))
+returns c = sym (put-more (c .before .args .self) (c .before .args .b) (c .if1 .taken))
 
 returns-2 : tie.Need-returns-2
-unfolding put
-returns-2 c = simp (le-ltb _ _ (c .if1 .left))
+returns-2 c = sym (put-full (c .before .args .self) (c .before .args .b) (c .if1 .left))
 
 pub put-spec : {M : Type 1} → statement M
 put-spec = tie.close (tie.spec element-write-t add-t returns returns-2)

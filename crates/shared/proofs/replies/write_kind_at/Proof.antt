@@ -1,7 +1,7 @@
 -- The name of the kind of the reading at that place.
 use borrow.Author.Needs.{needs}
-use Rattle.shared.proofs.Shared.write_kind_at.Statement.{statement}
-use Rattle.shared.proofs.Shared.write_kind_at.Tie as tie
+use Rattle.shared.proofs.replies.write_kind_at.Statement.{statement}
+use Rattle.shared.proofs.replies.write_kind_at.Tie as tie
 
 reading-at-requires : tie.Need-reading-at-requires
 reading-at-requires c κs = search needs

@@ -1,7 +1,7 @@
 -- The text of the reading at that place, shown in the unit chosen.
 use borrow.Author.Needs.{needs}
-use Rattle.shared.proofs.Shared.write_reading.Statement.{statement}
-use Rattle.shared.proofs.Shared.write_reading.Tie as tie
+use Rattle.shared.proofs.replies.write_reading.Statement.{statement}
+use Rattle.shared.proofs.replies.write_reading.Tie as tie
 
 reading-at-requires : tie.Need-reading-at-requires
 reading-at-requires c κs = search needs

@@ -1,8 +1,8 @@
 -- The names, a comma, the serial number and the versions one after the other (`puts-append`).
 use Rattle.text.proofs.Texts.{puts-append}
 use borrow.Author.Needs.{needs}
-use Rattle.shared.proofs.Shared.write_identity.Statement.{statement}
-use Rattle.shared.proofs.Shared.write_identity.Tie as tie
+use Rattle.shared.proofs.replies.write_identity.Statement.{statement}
+use Rattle.shared.proofs.replies.write_identity.Tie as tie
 
 write-names-requires : tie.Need-write-names-requires
 write-names-requires c κs = search needs

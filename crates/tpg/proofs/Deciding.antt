@@ -9,26 +9,24 @@ use lib.Dec.{leb}
 use Rattle.numbers.proofs.Cases.{and-true}
 use Rattle.gauges.specs.Readings.{withinLimits}
 use Rattle.gauges.specs.declared.reading.Reading.{Reading}
-use Rattle.ports.specs.Stream.{ticked}
-use Rattle.ports.specs.declared.Ticked.{Ticked}
-use Rattle.tpg.specs.Answers.{answer, handed, done, leastOutput}
+use Rattle.tpg.specs.Answers.{answer, handed}
 use Rattle.tpg.specs.States.{stateWithin}
 use Rattle.tpg.specs.Steps.{over}
-use Rattle.tpg.specs.Calls.{admits, turnedAway, roomed, roomedBytes, isChannel, read, readingCall, counted, dueText, tickText}
+use Rattle.tpg.specs.Calls.{admits, turnedAway, roomed, roomedBytes, isChannel, read, readingCall}
 use Rattle.tpg.specs.declared.State.{State}
 use Rattle.tpg.specs.declared.answers.Outcome.{Outcome}
 
 -- room there is where a call is admitted
-pub roomy : (s : State) (room : ℕ) → admits s room ≡ true → leastOutput ≤ room
+pub roomy : (s : State) (least room : ℕ) → admits s least room ≡ true → least ≤ room
 unfolding admits
-roomy s room e = leb-true leastOutput room (and-true (stateWithin s) (leb leastOutput room) e .1)
+roomy s least room e = leb-true least room (and-true (stateWithin s) (leb least room) e .1)
 
-module _ (s : State) (o : Outcome) (bytes out : List ℕ) where
-  pub admitted : admits s (length out) ≡ true → (o ≡ roomed s (length out) o) × (over bytes out ≡ over (roomedBytes s (length out) bytes) out)
+module _ (s : State) (least : ℕ) (o : Outcome) (bytes out : List ℕ) where
+  pub admitted : admits s least (length out) ≡ true → (o ≡ roomed s least (length out) o) × (over bytes out ≡ over (roomedBytes s least (length out) bytes) out)
   unfolding roomed roomedBytes
   admitted e = rw e (refl, refl)
 
-  pub turned : admits s (length out) ≡ false → (turnedAway s ≡ roomed s (length out) o) × (out ≡ over (roomedBytes s (length out) bytes) out)
+  pub turned : admits s least (length out) ≡ false → (turnedAway s ≡ roomed s least (length out) o) × (out ≡ over (roomedBytes s least (length out) bytes) out)
   unfolding roomed roomedBytes over
   turned e = rw e (refl, refl)
 
@@ -50,10 +48,3 @@ module _ (s : State) (channel : ℕ) (r : Reading) where
       → handed (answer 0) (read s (channel - 1) r) ≡ readingCall s channel r
   unfolding readingCall
   accepted e c w = rw (e, c, w)
-
--- ---- a tick that is counted
-
-pub ticked-on : (s : State) (t : Ticked) (out out' : List ℕ) (w : ℕ) → t ≡ ticked (s .port) → w ≡ length (dueText (s .shared) (t .due)) → out' ≡ over (dueText (s .shared) (t .due)) out
-    → (done (record { shared = s .shared; port = t .port }) 0 w ≡ counted s) × (out' ≡ over (tickText s) out)
-unfolding counted tickText
-ticked-on s t out out' w e f g = rw (f, g, e) (refl, refl)

@@ -1,5 +1,5 @@
 -- Every call keeps the limits of the state, and a fresh box has them.
-use Prim.Native.Nat.{ℕ, _-_}
+use Prim.Native.Nat.{ℕ, zero, suc, _-_, _*_}
 use mathlib.Core.Path.{_≡_, refl, sym, subst}
 use mathlib.Core.List.{List, [], _∷_}
 use mathlib.Core.Bool.{true}
@@ -24,10 +24,10 @@ use Rattle.shared.specs.Events.{taken as readingTaken, written, heard}
 use Rattle.shared.specs.Limits.{sharedWithin, serialWithin, Whole}
 use Rattle.shared.specs.declared.Shared.{Shared}
 use Rattle.shared.proofs.Kept as shared
-use Rattle.tpg.specs.Answers.{answer, handed}
+use Rattle.tpg.specs.Answers.{answer, handed, leastOutput}
 use Rattle.tpg.specs.States.{stateWithin, freshBox, cycled, Formed}
 use Rattle.tpg.specs.Steps.{acted, hearing, next, after}
-use Rattle.tpg.specs.Calls.{made, freshCall, admits, turnedAway, roomed, takenBytes, hosted, hostCall, counted, tickCall, isChannel, read, readingCall, cycleCall}
+use Rattle.tpg.specs.Calls.{made, freshCall, admits, turnedAway, roomed, takenBytes, hosted, hostCall, counted, tickCall, afterTicks, allCounted, ticksCall, isChannel, read, readingCall, cycleCall}
 use Rattle.tpg.specs.declared.State.{State}
 use Rattle.tpg.specs.declared.answers.Outcome.{Outcome}
 
@@ -98,6 +98,20 @@ unfolding after
 after-sound [] s k = k
 after-sound (b ∷ bs) s k = after-sound bs (next s b) (next-sound s b k)
 
+-- ---- one tick, and a run of ticks
+
+pub counted-sound : (s : State) → Sound s → Sound (counted s .state)
+unfolding counted
+counted-sound s k = record {
+  formed = record { shared = k .formed .shared; port = ports.ticked-eighty (s .port) (k .formed .port) };
+  within = together _ (parts s (k .within) .0) (ports.ticked-within (s .shared .model) (s .port) (parts s (k .within) .1));
+}
+
+pub after-ticks-sound : (n : ℕ) (s : State) → Sound s → Sound (afterTicks s n)
+unfolding afterTicks
+after-ticks-sound zero s k = k
+after-ticks-sound (suc n) s k = after-ticks-sound n (counted s .state) (counted-sound s k)
+
 -- ---- the calls
 
 pub fresh-call-sound : (n serial : ℕ) → Sound (freshCall n serial .state)
@@ -111,23 +125,21 @@ fresh-call-sound n serial = by (modelOf n)
     by NoModel = fresh-sound Tpg361 0 refl
 
 module _ (s : State) (k : Sound s) where
-  roomed-sound : (room : ℕ) (o : Outcome) → Sound (o .state) → Sound (roomed s room o .state)
+  roomed-sound : (least room : ℕ) (o : Outcome) → Sound (o .state) → Sound (roomed s least room o .state)
   unfolding roomed turnedAway
-  roomed-sound room o h =
-      cond-cases (λ o. Sound (o .state)) (admits s room) o (turnedAway s) (λ _. h)
+  roomed-sound least room o h =
+      cond-cases (λ o. Sound (o .state)) (admits s least room) o (turnedAway s) (λ _. h)
       (λ _. cond-cases (λ o. Sound (o .state)) (stateWithin s) (handed (answer 3) s) (handed (answer 1) s) (λ _. k) (λ _. k))
 
   pub host-sound : (input : List ℕ) (room : ℕ) → Sound (hostCall s input room .state)
   unfolding hosted
-  host-sound input room = roomed-sound room (hosted s input room) (after-sound (takenBytes s input room) s k)
+  host-sound input room = roomed-sound leastOutput room (hosted s input room) (after-sound (takenBytes s input room) s k)
 
   pub tick-sound : (room : ℕ) → Sound (tickCall s room .state)
-  unfolding counted
-  tick-sound room =
-      roomed-sound room (counted s) (record {
-        formed = record { shared = k .formed .shared; port = ports.ticked-eighty (s .port) (k .formed .port) };
-        within = together _ (parts s (k .within) .0) (ports.ticked-within (s .shared .model) (s .port) (parts s (k .within) .1));
-      })
+  tick-sound room = roomed-sound leastOutput room (counted s) (counted-sound s k)
+
+  pub ticks-sound : (n room : ℕ) → Sound (ticksCall s n room .state)
+  ticks-sound n room = roomed-sound (leastOutput * n) room (allCounted s n) (after-ticks-sound n s k)
 
   read-sound : (channel : ℕ) (r : Reading) → isChannel (s .shared .model) channel ≡ true → withinLimits r ≡ true → Sound (read s (channel - 1) r)
   unfolding readingTaken

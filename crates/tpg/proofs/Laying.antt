@@ -3,7 +3,7 @@ use Prim.Native.Nat.{ℕ, _+_, _≤_}
 use mathlib.Core.Path.{_≡_, sym}
 use mathlib.Core.List.{List, [], _++_, append-nil}
 use native.Mathlib.Omega.{arith}
-use native.Mathlib.Nat.{zero-add, add-zero}
+use native.Mathlib.Nat.{add-zero}
 use lib.ListN.{length, take, drop, length-append, length-drop, take-append-drop}
 use lib.Seq.{take-append-seam, drop-append-add, drop-drop}
 use Rattle.text.specs.Text.{empty, puts, laid, after}
@@ -17,10 +17,6 @@ module _ (xs ys out : List ℕ) where
   over-more =
       let d = drop (length xs) out in
       rw (take-append-seam xs d, drop-append-add xs d (length ys), drop-drop (length ys) (length xs) out, length-append xs ys)
-
-pub laid-first : (xs out : List ℕ) → laidAt 0 xs out ≡ over xs out
-unfolding laidAt over
-laid-first xs out = rw (zero-add (length xs))
 
 pub laid-nothing : (at : ℕ) (out : List ℕ) → out ≡ laidAt at [] out
 unfolding laidAt

@@ -1,6 +1,7 @@
 pub mod Laying
 pub mod Sending
 pub mod Runs
+pub mod Ticking
 pub mod Deciding
 pub mod Refusals
 pub mod Counts

@@ -25,10 +25,10 @@ Back s o = (number (o .answer) ≡ 0 → ⊥) → o ≡ handed (o .answer) s
 
 module _ (s : State) where
   -- and, with an output, sends nothing
-  pub roomed-back : (room : ℕ) (o : Outcome) (bytes : List ℕ) → o .answer ≡ answer 0
-      → (number (roomed s room o .answer) ≡ 0 → ⊥) → (roomed s room o ≡ handed (roomed s room o .answer) s) × (roomedBytes s room bytes ≡ [])
+  pub roomed-back : (least room : ℕ) (o : Outcome) (bytes : List ℕ) → o .answer ≡ answer 0
+      → (number (roomed s least room o .answer) ≡ 0 → ⊥) → (roomed s least room o ≡ handed (roomed s least room o .answer) s) × (roomedBytes s least room bytes ≡ [])
   unfolding roomed roomedBytes turnedAway
-  roomed-back room o bytes e = by (admits s room) (stateWithin s)
+  roomed-back least room o bytes e = by (admits s least room) (stateWithin s)
     where
       by : (a b : Bool) → let r = cond a o (cond b (handed (answer 3) s) (handed (answer 1) s)) in
           (number (r .answer) ≡ 0 → ⊥) → (r ≡ handed (r .answer) s) × (cond a bytes [] ≡ [])

@@ -1,6 +1,6 @@
 -- The calls (01, "What the box answers to" and "Answer numbers of the calls"): "Tested in the order 1 to 5."
-use Prim.Native.Nat.{ℕ, _-_}
-use mathlib.Core.List.{List, []}
+use Prim.Native.Nat.{ℕ, zero, suc, _-_, _*_}
+use mathlib.Core.List.{List, [], _++_}
 use mathlib.Core.Bool.{Bool, cond, _&&_}
 use lib.ListN.{length, take}
 use lib.Dec.{leb}
@@ -31,21 +31,21 @@ made NoModel serial = handed (answer 2) (freshBox Tpg361 0)
 unfoldable pub freshCall : ℕ → ℕ → Outcome
 freshCall number serial = made (modelOf number) serial
 
--- the state is within its limits, and the output not "shorter than 64 bytes"
-unfoldable pub admits : State → ℕ → Bool
-admits s room = stateWithin s && leb leastOutput room
+-- the state is within its limits, and the output not shorter than the call asks for: "output shorter than 64 bytes"
+unfoldable pub admits : State → ℕ → ℕ → Bool
+admits s least room = stateWithin s && leb least room
 
 -- "the state handed in breaks a limit": 1; where it breaks none, the output is too short: 3
 unfoldable pub turnedAway : State → Outcome
 turnedAway s = cond (stateWithin s) (handed (answer 3) s) (handed (answer 1) s)
 
 -- a call with an output: what it answers where it is admitted, or the refusal
-unfoldable pub roomed : State → ℕ → Outcome → Outcome
-roomed s room accepted = cond (admits s room) accepted (turnedAway s)
+unfoldable pub roomed : State → ℕ → ℕ → Outcome → Outcome
+roomed s least room accepted = cond (admits s least room) accepted (turnedAway s)
 
 -- what such a call sends: a refusal sends nothing
-unfoldable pub roomedBytes : State → ℕ → List ℕ → List ℕ
-roomedBytes s room bytes = cond (admits s room) bytes []
+unfoldable pub roomedBytes : State → ℕ → ℕ → List ℕ → List ℕ
+roomedBytes s least room bytes = cond (admits s least room) bytes []
 
 -- the host's bytes that are taken
 abbrev pub takenBytes : State → List ℕ → ℕ → List ℕ
@@ -61,11 +61,11 @@ hosted s input room = done (after s (takenBytes s input room)) (taken s input ro
 
 -- the call that takes host bytes
 abbrev pub hostCall : State → List ℕ → ℕ → Outcome
-hostCall s input room = roomed s room (hosted s input room)
+hostCall s input room = roomed s leastOutput room (hosted s input room)
 
 -- and what it sends
 abbrev pub hostBytes : State → List ℕ → ℕ → List ℕ
-hostBytes s input room = roomedBytes s room (hostText s input room)
+hostBytes s input room = roomedBytes s leastOutput room (hostText s input room)
 
 -- a line of the stream, where one is due
 abbrev pub dueText : Shared → Bool → List ℕ
@@ -81,11 +81,33 @@ counted s = done (record { shared = s .shared; port = ticked (s .port) .port }) 
 
 -- the call that takes a tick
 abbrev pub tickCall : State → ℕ → Outcome
-tickCall s room = roomed s room (counted s)
+tickCall s room = roomed s leastOutput room (counted s)
 
 -- and what it sends
 abbrev pub tickBytes : State → ℕ → List ℕ
-tickBytes s room = roomedBytes s room (tickText s)
+tickBytes s room = roomedBytes s leastOutput room (tickText s)
+
+-- the state after ticks, "one tick of 100 ms" after the other
+unfoldable pub afterTicks : State → ℕ → State
+afterTicks s zero = s
+afterTicks s (suc n) = afterTicks (counted s .state) n
+
+-- all that they send: "COM, 0, 1 or 2 streams every 1, 10 or 600 ticks"
+unfoldable pub ticksText : State → ℕ → List ℕ
+ticksText s zero = []
+ticksText s (suc n) = tickText s ++ ticksText (counted s .state) n
+
+-- so many ticks counted: "new state, counts, bytes written"
+abbrev pub allCounted : State → ℕ → Outcome
+allCounted s n = done (afterTicks s n) 0 (length (ticksText s n))
+
+-- the call that takes several ticks: "output shorter than 64 bytes" for each of them is refused
+abbrev pub ticksCall : State → ℕ → ℕ → Outcome
+ticksCall s n room = roomed s (leastOutput * n) room (allCounted s n)
+
+-- and what it sends
+abbrev pub ticksBytes : State → ℕ → ℕ → List ℕ
+ticksBytes s n room = roomedBytes s (leastOutput * n) room (ticksText s n)
 
 -- a channel of the model, counted from 1
 abbrev pub isChannel : Model → ℕ → Bool

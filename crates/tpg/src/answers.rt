@@ -1,6 +1,6 @@
 // What a call answers: a number of the paper's table, the state, and its counts.
 ghost use mathlib.Core.Path.{_≡_};
-ghost use Rattle.tpg.specs.Answers.{handed, done};
+ghost use Rattle.tpg.specs.Answers.{number, handed, done};
 ghost use Rattle.tpg.specs.Calls.{admits, turnedAway};
 use crate::State;
 use ports::Port;
@@ -13,6 +13,22 @@ pub enum Answer {
     ShortOutput,
     NoChannel,
     BadReading,
+}
+
+impl Answer {
+    // Its number in the paper's table.
+    pub fn number(self) -> u8
+        ensures { λ r. ⌜ r ≡ number self ⌝ }
+    {
+        match self {
+            Answer::Accepted => 0,
+            Answer::BrokenState => 1,
+            Answer::NoModel => 2,
+            Answer::ShortOutput => 3,
+            Answer::NoChannel => 4,
+            Answer::BadReading => 5,
+        }
+    }
 }
 
 pub struct Outcome {
@@ -48,11 +64,12 @@ impl State {
             written: 0,
         }
     }
-    // Whether a call with an output of so many bytes is admitted.
-    pub(crate) fn admits(self, room: usize) -> bool
-        ensures { λ r. ⌜ r ≡ admits self room ⌝ }
+
+    // Whether a call that asks for a least output is admitted with that room.
+    pub(crate) fn admits(self, least: usize, room: usize) -> bool
+        ensures { λ r. ⌜ r ≡ admits self least room ⌝ }
     {
-        self.is_within() & (State::LEAST_OUTPUT <= room)
+        self.is_within() & (least <= room)
     }
 
     // The refusal of such a call: a broken state is told before a short output.

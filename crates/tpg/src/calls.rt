@@ -1,12 +1,11 @@
-// The calls that take no bytes: a fresh box, a reading, a tick, a power cycle.
+// The calls that take no bytes: a fresh box, a reading, ticks, a power cycle.
 ghost use mathlib.Core.Path.{_≡_};
-ghost use Prim.Native.Nat.{_≤_};
+ghost use Prim.Native.Nat.{_≤_, _*_};
 ghost use lib.ListN.{length};
-ghost use Rattle.text.specs.Text.{empty, puts};
 ghost use Rattle.tpg.specs.Answers.{answer, handed, leastOutput};
 ghost use Rattle.tpg.specs.States.{freshBox};
 ghost use Rattle.tpg.specs.Steps.{over};
-ghost use Rattle.tpg.specs.Calls.{freshCall, counted, dueText, tickText, tickCall, tickBytes, read, readingCall, cycleCall};
+ghost use Rattle.tpg.specs.Calls.{freshCall, tickCall, tickBytes, ticksText, allCounted, ticksCall, ticksBytes, read, readingCall, cycleCall};
 use crate::State;
 use crate::answers::Answer;
 use crate::answers::Outcome;
@@ -16,23 +15,12 @@ use numbers::value::Value;
 use settings::model::Model;
 use settings::model::Numbered;
 use shared::Shared;
-use text::Text;
 
 // A fresh box, and an answer.
 fn made(model: Model, serial: u32, answer: Answer) -> Outcome
     ensures { λ r. ⌜ r ≡ handed answer (freshBox model serial) ⌝ }
 {
     State::start(model, serial, model.defaults()).with_answer(answer)
-}
-
-// What a tick sends: a line of the stream where one is due.
-fn due_text(shared: Shared, due: bool) -> Text
-    ensures { λ r. ⌜ r ≡ puts empty (dueText shared due) ⌝ }
-{
-    if due {
-        return shared.stream_line();
-    }
-    Text::empty()
 }
 
 impl State {
@@ -86,27 +74,43 @@ impl State {
         self.with_answer(Answer::BrokenState)
     }
 
-    // The tick of a box that has room for a line of the stream.
-    fn advance(self, out: &mut [u8]) -> Outcome
-        requires { ⌜ leastOutput ≤ length (now out) ⌝ }
-        ensures { λ r. ⌜ (r ≡ counted self) × (now (out .exit) ≡ over (tickText self) (now (out .entry))) ⌝ }
+    // The ticks of a box that has room for a line of the stream at each; no tick changes the line.
+    fn advance(self, count: u8, out: &mut [u8]) -> Outcome
+        requires { ⌜ leastOutput * count ≤ length (now out) ⌝ }
+        ensures { λ r. ⌜ (r ≡ allCounted self count) × (now (out .exit) ≡ over (ticksText self count) (now (out .entry))) ⌝ }
     {
         let shared = self.shared;
-        let before = self.port;
-        let t = before.tick();
-        let port = t.port;
-        let written = due_text(shared, t.due).copy(out, 0);
+        let line = shared.stream_line();
+        let mut port = self.port;
+        let mut written: usize = 0;
+        let mut i: u8 = 0;
+        while i < count {
+            let t = port.tick();
+            let next = t.port;
+            port = next;
+            i += 1;
+            if t.due {
+                written = line.copy(out, written);
+            }
+        }
         finished(shared, port, 0, written)
+    }
+
+    // Ticks of 100 ms, as many as count says.
+    pub fn ticks(self, count: u8, out: &mut [u8]) -> Outcome
+        ensures { λ r. ⌜ (r ≡ ticksCall self count (length (now (out .entry)))) × (now (out .exit) ≡ over (ticksBytes self count (length (now (out .entry)))) (now (out .entry))) ⌝ }
+    {
+        if self.admits(State::LEAST_OUTPUT * (count as usize), out.len()) {
+            return self.advance(count, out);
+        }
+        self.turned_away()
     }
 
     // One tick of 100 ms.
     pub fn tick(self, out: &mut [u8]) -> Outcome
         ensures { λ r. ⌜ (r ≡ tickCall self (length (now (out .entry)))) × (now (out .exit) ≡ over (tickBytes self (length (now (out .entry)))) (now (out .entry))) ⌝ }
     {
-        if self.admits(out.len()) {
-            return self.advance(out);
-        }
-        self.turned_away()
+        self.ticks(1, out)
     }
 
     // Off and on again: the box starts with its saved set.

@@ -113,7 +113,7 @@ impl State {
     pub fn host(self, input: &[u8], out: &mut [u8]) -> Outcome
         ensures { λ r. ⌜ (r ≡ hostCall self (now (input .entry)) (length (now (out .entry)))) × (now (out .exit) ≡ over (hostBytes self (now (input .entry)) (length (now (out .entry)))) (now (out .entry))) ⌝ }
     {
-        if self.admits(out.len()) {
+        if self.admits(State::LEAST_OUTPUT, out.len()) {
             return self.run(input, out);
         }
         self.turned_away()

@@ -1,50 +1,85 @@
--- What is due fits the room and is laid at the front of the output.
+-- The line of the stream is made once, since ticks change the port alone.
 use mathlib.Core.Path.{_∙_}
-use Prim.Native.Nat.{_+_, _≤_}
+use Prim.Native.Nat.{_-_}
 use native.Mathlib.Omega.{arith}
-use native.Mathlib.Nat.{zero-add}
-use borrow.Author.Needs.{needs}
 use denote.Ref.{now}
-use lib.ListN.{length}
-use Rattle.tpg.specs.Calls.{dueText}
-use Rattle.tpg.proofs.Laying.{copied, laid-first}
-use Rattle.tpg.proofs.Sending.{due-length}
-use Rattle.tpg.proofs.Deciding.{ticked-on}
+use borrow.Author.Needs.{needs}
+use Rattle.tpg.proofs.Ticking.{Counting, start, due, idle, ended, same-length as length-kept}
 use Rattle.tpg.proofs.State.advance.Statement.{statement}
 use Rattle.tpg.proofs.State.advance.Tie as tie
 
-tick-requires : tie.Need-tick-requires
+abbrev Inv-loop : tie.InvT-loop
+Inv-loop count out₀ shared line port₀ written₀ i₀ out port written i = Counting (record { shared = shared; port = port₀ }) count out₀ port out i written
+
+abbrev μ-loop : tie.MeasureT-loop
+μ-loop count out₀ shared line port₀ written₀ i₀ out port written i = count - i
+
+stream-line-requires : tie.Need-stream-line-requires Inv-loop μ-loop
+stream-line-requires c κs = search needs
+
+loop-holds : tie.Need-loop-holds Inv-loop μ-loop
+loop-holds c =
+    let a = c .before .before .before .before .args in
+    start (a .self) (a .count) (now (a .out))
+
+tick-requires : tie.Need-tick-requires Inv-loop μ-loop
 tick-requires c κs = search needs
 
-due-text-requires : tie.Need-due-text-requires
-due-text-requires c κs = search needs
+add-i : tie.Need-add-i Inv-loop μ-loop
+add-i c = omega arith
 
-copy-requires : tie.Need-copy-requires
+copy-requires : tie.Need-copy-requires Inv-loop μ-loop
 copy-requires c κs = search needs
 
-finished-requires : tie.Need-finished-requires
+loop-less : tie.Need-loop-less Inv-loop μ-loop
+loop-less c = omega arith
+
+loop-again : tie.Need-loop-again Inv-loop μ-loop
+loop-again c =
+    let k = c .before .before in
+    let b = k .before .before .before .before in
+    let l = b .before .before in
+    let line = l .before .before in
+    due (l .loop .inv) (line .before .before .before .pre) (b .tick .result) (b .before .loop-test .taken) (b .tick .ensures) (k .before .before .if1 .taken)
+    (line .stream-line .result) (line .stream-line .ensures) _ _ (k .copy .ensures .0) (k .copy .ensures .1)
+
+loop-less-2 : tie.Need-loop-less-2 Inv-loop μ-loop
+loop-less-2 c = omega arith
+
+loop-again-2 : tie.Need-loop-again-2 Inv-loop μ-loop
+loop-again-2 c =
+    let b = c .before .before in
+    let l = b .before .before in
+    idle (l .loop .inv) (l .before .before .before .before .before .pre) (b .tick .result) (b .before .loop-test .taken) (b .tick .ensures) (c .if1 .left)
+
+finished-requires : tie.Need-finished-requires Inv-loop μ-loop
 finished-requires c κs = search needs
 
-same-length : tie.Need-same-length
-same-length c = search needs
+same-length : tie.Need-same-length Inv-loop μ-loop
+same-length c =
+    let l = c .before .before in
+    length-kept (l .loop .inv) (l .before .before .before .before .before .pre)
 
-returns : tie.Need-returns
+returns : tie.Need-returns Inv-loop μ-loop
 returns c =
-    let k = c .before .before .before in
-    let d = k .before .before in
-    let b = d .before .before in
-    let st = b .before .before .before .before in
-    let a = st .args in
-    let t = b .tick .result in
-    let text = dueText (a .self .shared) (t .due) in
-    let short = due-length (a .self .shared) (t .due) in
-    let room : 0 + length text ≤ length (now (a .out)) = omega (arith, st .pre, short) in
-    let l = copied (d .due-text .result) text (now (a .out)) 0 (d .due-text .ensures) short room in
-    let e = ticked-on (a .self) t (now (a .out)) _ _ (b .tick .ensures) (k .copy .ensures .0 ∙ l .0 ∙ zero-add (length text))
-    (k .copy .ensures .1 ∙ l .1 ∙ laid-first text (now (a .out))) in
+    let e = ended (c .before .before .loop .inv) (c .before .loop-test .left) in
     (c .finished .ensures ∙ e .0, e .1)
 
 pub advance-spec : {M : Type 1} → statement M
 advance-spec =
     tie.close
-    (tie.spec tick-requires due-text-requires copy-requires finished-requires same-length returns)
+    (tie.spec
+    Inv-loop
+    μ-loop
+    stream-line-requires
+    loop-holds
+    tick-requires
+    add-i
+    copy-requires
+    loop-less
+    loop-again
+    loop-less-2
+    loop-again-2
+    finished-requires
+    same-length
+    returns)

@@ -3,6 +3,7 @@ use mathlib.Core.Path.{sym, _∙_}
 use borrow.Author.Needs.{needs}
 use denote.Ref.{now}
 use lib.ListN.{length}
+use Rattle.tpg.specs.Answers.{leastOutput}
 use Rattle.tpg.specs.Calls.{hosted, hostText}
 use Rattle.tpg.proofs.Deciding.{admitted, turned}
 use Rattle.tpg.proofs.State.host.Statement.{statement}
@@ -22,7 +23,7 @@ returns c =
     let k = c .before .before .before .before in
     let a = k .before .before .before .before .args in
     let n = length (now (a .out)) in
-    let e = admitted (a .self) (hosted (a .self) (now (a .input)) n) (hostText (a .self) (now (a .input)) n) (now (a .out))
+    let e = admitted (a .self) leastOutput (hosted (a .self) (now (a .input)) n) (hostText (a .self) (now (a .input)) n) (now (a .out))
     (sym (k .before .admits .ensures) ∙ k .if1 .taken) in
     let r = c .before .before .run .ensures in
     (r .0 ∙ e .0, r .1 ∙ e .1)
@@ -34,7 +35,7 @@ returns-2 : tie.Need-returns-2
 returns-2 c =
     let a = c .before .before .before .before .before .args in
     let n = length (now (a .out)) in
-    let e = turned (a .self) (hosted (a .self) (now (a .input)) n) (hostText (a .self) (now (a .input)) n) (now (a .out))
+    let e = turned (a .self) leastOutput (hosted (a .self) (now (a .input)) n) (hostText (a .self) (now (a .input)) n) (now (a .out))
     (sym (c .before .before .admits .ensures) ∙ c .before .if1 .left) in
     (c .turned-away .ensures ∙ e .0, e .1)
 

@@ -1,42 +1,28 @@
--- A tick that is admitted is counted; any other is turned away.
-use mathlib.Core.Path.{sym, _∙_}
+-- A tick is one of several.
+use Prim.Native.Nat.{ℕ}
+use mathlib.Core.Path.{ap, _∙_}
+use mathlib.Core.List.{List}
 use borrow.Author.Needs.{needs}
 use denote.Ref.{now}
 use lib.ListN.{length}
-use Rattle.tpg.specs.Calls.{counted, tickText}
-use Rattle.tpg.proofs.Deciding.{roomy, admitted, turned}
+use Rattle.tpg.specs.Steps.{over}
+use Rattle.tpg.proofs.Ticking.{ticks-one, ticks-one-bytes}
 use Rattle.tpg.proofs.State.tick.Statement.{statement}
 use Rattle.tpg.proofs.State.tick.Tie as tie
 
-admits-requires : tie.Need-admits-requires
-admits-requires c κs = search needs
-
-advance-requires : tie.Need-advance-requires
-advance-requires c κs =
-    let a = c .before .before .before .before .args in
-    roomy (a .self) (length (now (a .out))) (sym (c .before .before .admits .ensures) ∙ c .before .if1 .taken)
+ticks-requires : tie.Need-ticks-requires
+ticks-requires c κs = search needs
 
 same-length : tie.Need-same-length
 same-length c = search needs
 
 returns : tie.Need-returns
 returns c =
-    let k = c .before .before .before .before in
+    let k = c .before .before in
     let a = k .before .before .before .args in
-    let e = admitted (a .self) (counted (a .self)) (tickText (a .self)) (now (a .out)) (sym (k .before .admits .ensures) ∙ k .if1 .taken) in
-    let r = c .before .before .advance .ensures in
-    (r .0 ∙ e .0, r .1 ∙ e .1)
-
-turned-away-requires : tie.Need-turned-away-requires
-turned-away-requires c κs = search needs
-
-returns-2 : tie.Need-returns-2
-returns-2 c =
-    let a = c .before .before .before .before .args in
-    let e = turned (a .self) (counted (a .self)) (tickText (a .self)) (now (a .out)) (sym (c .before .before .admits .ensures) ∙ c .before .if1 .left) in
-    (c .turned-away .ensures ∙ e .0, e .1)
+    let out = now (a .out) in
+    let e = k .ticks .ensures in
+    (e .0 ∙ ticks-one (a .self) (length out), e .1 ∙ ap (λ (x : List ℕ). over x out) (ticks-one-bytes (a .self) (length out)))
 
 pub tick-spec : {M : Type 1} → statement M
-tick-spec =
-    tie.close
-    (tie.spec admits-requires advance-requires same-length returns turned-away-requires returns-2)
+tick-spec = tie.close (tie.spec ticks-requires same-length returns)

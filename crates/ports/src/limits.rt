@@ -14,21 +14,19 @@ const LEAST: u8 = 33;
 
 const MOST: u8 = 126;
 
-// Whether the places from a to b hold bytes from low to high.
+// Whether the places from a to b hold bytes from low to high; no early end, so that the compiler tests many at once.
 fn all_within(line: [u8; 80], a: usize, b: usize, low: u8, high: u8) -> bool
     requires { ⌜ (a ≤ b) × (b ≤ 80) ⌝ }
     ensures { λ r. ⌜ r ≡ every (inRange low high) (take (b - a) (drop a line)) ⌝ }
 {
+    let mut all = true;
     let mut i = a;
     while i < b {
         let x = line[i];
-        if (low <= x) & (x <= high) {
-            i += 1;
-        } else {
-            return false;
-        }
+        all = all & ((low <= x) & (x <= high));
+        i += 1;
     }
-    true
+    all
 }
 
 impl Port {

@@ -1,22 +1,19 @@
 -- The table of the stored settings' fields, entry by entry; the sheet, line by line.
 use Prim.Native.Nat.{ℕ, zero, suc, _+_, _-_, _≤_, _<_}
 use mathlib.Core.Path.{_≡_, refl, sym, ap, _∙_}
-use mathlib.Core.List.{List, [], _∷_}
-use mathlib.Core.Bool.{Bool, true, false}
+use mathlib.Core.List.{List, [], _∷_, _++_}
+use mathlib.Core.Bool.{Bool, _&&_, and-true, and-assoc}
 use native.Mathlib.Omega.{arith}
 use native.Mathlib.Numerals.{add-one}
 use lib.ListN.{length, getD, take, drop, drop-of-length-le}
 use lib.Seq.{drop-cons}
 use Rattle.text.proofs.Tables.{tabled}
-use Rattle.settings.specs.Models.{defaults}
-use Rattle.settings.specs.Mnemonics.{sheetAt}
-use Rattle.settings.specs.Kinds.{whole, kinds, storedTable, storedKinds}
-use Rattle.settings.specs.Rows.{row}
+use Rattle.settings.specs.Mnemonics.{sheet}
+use Rattle.settings.specs.Kinds.{whole, storedTable, storedKinds}
 use Rattle.settings.specs.Lists.{every}
-use Rattle.settings.specs.Limits.{rowFits, rowWithin}
+use Rattle.settings.specs.Limits.{rowWithin, within}
 use Rattle.settings.specs.declared.model.Model.{Model}
-use Rattle.settings.specs.declared.mnemonic.Setting.{Setting}
-use Rattle.settings.specs.declared.mnemonic.Mnemonic.the-variants.{Setting as Of}
+use Rattle.settings.specs.declared.mnemonic.Setting.the-variants.{Uni, Stored}
 use Rattle.settings.specs.declared.Settings.{Settings}
 use Rattle.settings.specs.declared.kinds.Kind.{Kind}
 use Rattle.settings.specs.declared.kinds.Kind.the-variants.{Threshold}
@@ -45,21 +42,38 @@ pub stored-past : (model : Model) (k : ℕ) → 9 ≤ k → storedKinds model k 
 unfolding storedKinds
 stored-past model k h = ap (take 1) (drop-of-length-le (storedTable model) h)
 
--- the test over a list, member by member
-module _ {A : Type 0} (p : A → Bool) (d : A) (xs : List A) (i : ℕ) where
-  pub every-here : i < length xs → p (getD xs i d) ≡ true → every p (drop i xs) ≡ every p (drop (i + 1) xs)
+-- the test over a list, member by member, beside what was found of those before
+module _ {A : Type 0} (p : A → Bool) (d : A) (xs : List A) (i : ℕ) (all : Bool) where
+  pub every-next : i < length xs → all && p (getD xs i d) && every p (drop (i + 1) xs) ≡ all && every p (drop i xs)
   unfolding every
-  every-here h e = rw (add-one i, drop-cons xs i d h, e)
+  every-next h = rw (add-one i, drop-cons xs i d h) (and-assoc all (p (getD xs i d)) (every p (drop (suc i) xs)))
 
-  pub every-not : i < length xs → p (getD xs i d) ≡ false → every p (drop i xs) ≡ false
+  pub every-end : length xs ≤ i → all && every p (drop i xs) ≡ all
   unfolding every
-  every-not h e = rw (drop-cons xs i d h, e)
+  every-end h = rw (drop-of-length-le xs h) (and-true all)
 
-  pub every-end : length xs ≤ i → every p (drop i xs) ≡ true
-  unfolding every
-  every-end h = rw (drop-of-length-le xs h)
+-- and four at once
+pub every-four : {A : Type 0} (p : A → Bool) (a b c d : A) → p a && (p b && (p c && p d)) ≡ every p (a ∷ b ∷ c ∷ d ∷ [])
+unfolding every
+every-four p a b c d = ap (λ (t : Bool). p a && (p b && (p c && t))) (sym (and-true (p d)))
 
--- what the code tests of a line of the sheet is what the limits ask of it
-pub line-tested : (model : Model) (s d : Settings) (x : Setting) (i : ℕ) (t : Bool) → t ≡ rowFits (kinds model (Of x)) (row s x) (row d x) → d ≡ defaults model
-    → x ≡ sheetAt model i → rowWithin model s (sheetAt model i) ≡ t
-line-tested model s d x i t e q p = sym (e ∙ ap (λ (d : Settings). rowFits (kinds model (Of x)) (row s x) (row d x)) q ∙ ap (rowWithin model s) p)
+every-append : {A : Type 0} (p : A → Bool) (xs ys : List A) → every p xs && every p ys ≡ every p (xs ++ ys)
+unfolding every
+every-append p [] ys = refl
+every-append p (x ∷ xs) ys = and-assoc (p x) (every p xs) (every p ys) ∙ ap (λ (t : Bool). p x && t) (every-append p xs ys)
+
+-- the sheet in its three parts
+pub sheet-parts : (model : Model) (s : Settings)
+    → every (rowWithin model s) (take 4 (sheet model)) && (every (rowWithin model s) (take 4 (drop 4 (sheet model))) && every (rowWithin model s) (drop 8 (sheet model)))
+    ≡ within model s
+unfolding within
+sheet-parts model s =
+    let p = rowWithin model s in
+    let a = take 4 (sheet model) in
+    let b = take 4 (drop 4 (sheet model)) in
+    let c = drop 8 (sheet model) in
+    ap (λ (t : Bool). every p a && t) (every-append p b c) ∙ every-append p a (b ++ c)
+
+-- the last of them
+pub stored-line : (model : Model) (k : ℕ) → k < 9 → Stored k ≡ getD (drop 8 (sheet model)) k Uni
+stored-line model k h = tabled Stored 9 (drop 8 (sheet model)) refl k Uni h

@@ -39,13 +39,17 @@ storedTable model =
 unfoldable pub storedKinds : Model → ℕ → List Kind
 storedKinds model k = take 1 (drop k (storedTable model))
 
+-- "assignment .., lower, upper"
+abbrev pub switchingKinds : Model → List Kind
+switchingKinds model = assignment model ∷ Threshold ∷ Threshold ∷ []
+
 -- the rows of the table
 abbrev pub settingKinds : Model → Setting → List Kind
 settingKinds model Uni = whole 0 4 ∷ []
 settingKinds model Fil = perChannel model (whole 0 3)
 settingKinds model Cal = perChannel model factor
 settingKinds model Dcd = perChannel model (whole 0 4)
-settingKinds model (Sp k) = assignment model ∷ Threshold ∷ Threshold ∷ []
+settingKinds model (Sp k) = switchingKinds model
 settingKinds model (Stored k) = storedKinds model k
 
 -- "CFx takes one factor"; "SPS, PR1, PR2, PRX, TID, AYT and ERR take no field"; "COM (0 to 2) and SAV (0 to 1)"

@@ -3,7 +3,7 @@
 use mathlib.Core.Path.{_≡_}
 use mathlib.Core.List.{List}
 use mathlib.Core.Bool.{Bool, cond, _&&_}
-use lib.ListN.{length, getD}
+use lib.ListN.{length}
 use lib.Dec.{leb, ltb, eqb}
 use lib.IntN.{pos}
 use Rattle.numbers.specs.Numbers.{between, withinStops}
@@ -11,7 +11,7 @@ use Rattle.numbers.specs.declared.threshold.Threshold.{Threshold}
 use Rattle.settings.specs.Lists.{every}
 use Rattle.settings.specs.Models.{defaults}
 use Rattle.settings.specs.Mnemonics.{sheet}
-use Rattle.settings.specs.Kinds.{kinds}
+use Rattle.settings.specs.Kinds.{kinds, packed}
 use Rattle.settings.specs.Rows.{row}
 use Rattle.settings.specs.declared.model.Model.{Model}
 use Rattle.settings.specs.declared.mnemonic.Setting.{Setting}
@@ -19,6 +19,7 @@ use Rattle.settings.specs.declared.mnemonic.Mnemonic.the-variants.{Setti
 use Rattle.settings.specs.declared.kinds.Limits.{Limits}
 use Rattle.settings.specs.declared.kinds.Kind.{Kind}
 use Rattle.settings.specs.declared.kinds.Kind.the-variants.{Whole, Factor, Threshold as Level}
+use Rattle.settings.specs.declared.kinds.Kinds.{Kinds}
 use Rattle.settings.specs.declared.rows.Row.{Row}
 use Rattle.settings.specs.declared.Settings.{Settings}
 
@@ -41,11 +42,15 @@ abbrev pub placeWithin : Bool → Kind → Threshold → Threshold → Bool
 placeWithin has kind cell default = cond has (fits kind cell) (sameCell cell default)
 
 -- so for each cell of a row, beside the row's default
+abbrev pub cellsFit : Kinds → Row → Row → Bool
+cellsFit ks r d =
+    placeWithin (ltb 0 (ks .count)) (ks .first) (r .first) (d .first)
+    && (placeWithin (ltb 1 (ks .count)) (ks .second) (r .second) (d .second)
+    && placeWithin (ltb 2 (ks .count)) (ks .third) (r .third) (d .third))
+
+-- and so for the kinds in a list
 abbrev pub rowFits : List Kind → Row → Row → Bool
-rowFits ks r d =
-    placeWithin (ltb 0 (length ks)) (getD ks 0 Level) (r .first) (d .first)
-    && (placeWithin (ltb 1 (length ks)) (getD ks 1 Level) (r .second) (d .second)
-    && placeWithin (ltb 2 (length ks)) (getD ks 2 Level) (r .third) (d .third))
+rowFits ks = cellsFit (packed ks)
 
 -- the row of a setting, beside its default on the model
 abbrev pub rowWithin : Model → Settings → Setting → Bool

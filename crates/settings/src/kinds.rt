@@ -1,7 +1,8 @@
 // The fields that a mnemonic takes on a model: how many, of which kind, with which limits.
 ghost use mathlib.Core.Path.{_≡_};
 ghost use mathlib.Core.List.{[], _∷_};
-ghost use Rattle.settings.specs.Kinds.{packed, whole, factor, assignment, perChannel, storedKinds, settingKinds, kinds};
+ghost use Rattle.settings.specs.Kinds.{packed, whole, factor, assignment, perChannel, storedKinds, switchingKinds, settingKinds, kinds};
+ghost use Rattle.settings.specs.declared.mnemonic.Setting.the-variants.{Uni, Fil, Cal, Dcd};
 ghost use Rattle.settings.specs.declared.kinds.Kind.the-variants.{Threshold};
 use crate::mnemonic::Mnemonic;
 use crate::mnemonic::Setting;
@@ -71,6 +72,12 @@ fn one(k: Kind) -> Kinds
     }
 }
 
+fn one_whole(least: u32, most: u32) -> Kinds
+    ensures { λ r. ⌜ r ≡ packed (whole least most ∷ []) ⌝ }
+{
+    one(whole(least, most))
+}
+
 // EVA FMT LNG NAD PRE PRO PUC DCS, behind ERA, whose limits stand with the model
 const LEAST: [u32; 8] = [0, 0, 0, 1, 0, 0, 0, 0];
 
@@ -109,7 +116,13 @@ impl Model {
         }
     }
 
-    fn stored_kinds(self, k: u8) -> Kinds
+    fn whole_per_channel(self, least: u32, most: u32) -> Kinds
+        ensures { λ r. ⌜ r ≡ packed (perChannel self (whole least most)) ⌝ }
+    {
+        self.per_channel(whole(least, most))
+    }
+
+    pub(crate) fn stored_kinds(self, k: u8) -> Kinds
         ensures { λ r. ⌜ r ≡ packed (storedKinds self k) ⌝ }
     {
         let i = k as usize;
@@ -117,25 +130,56 @@ impl Model {
             return one(self.assignment());
         }
         if i < 9 {
-            return one(whole(LEAST[i - 1], MOST[i - 1]));
+            return one_whole(LEAST[i - 1], MOST[i - 1]);
         }
         none()
+    }
+
+    // a function for each setting: the test of the limits, which knows its setting, needs no match
+    pub(crate) fn unit_kinds(self) -> Kinds
+        ensures { λ r. ⌜ r ≡ packed (settingKinds self Uni) ⌝ }
+    {
+        one_whole(0, 4)
+    }
+
+    pub(crate) fn filter_kinds(self) -> Kinds
+        ensures { λ r. ⌜ r ≡ packed (settingKinds self Fil) ⌝ }
+    {
+        self.whole_per_channel(0, 3)
+    }
+
+    pub(crate) fn factor_kinds(self) -> Kinds
+        ensures { λ r. ⌜ r ≡ packed (settingKinds self Cal) ⌝ }
+    {
+        self.per_channel(factor())
+    }
+
+    pub(crate) fn resolution_kinds(self) -> Kinds
+        ensures { λ r. ⌜ r ≡ packed (settingKinds self Dcd) ⌝ }
+    {
+        self.whole_per_channel(0, 4)
+    }
+
+    pub(crate) fn switching_kinds(self) -> Kinds
+        ensures { λ r. ⌜ r ≡ packed (switchingKinds self) ⌝ }
+    {
+        Kinds {
+            count: 3,
+            first: self.assignment(),
+            second: Kind::Threshold,
+            third: Kind::Threshold,
+        }
     }
 
     fn setting_kinds(self, x: Setting) -> Kinds
         ensures { λ r. ⌜ r ≡ packed (settingKinds self x) ⌝ }
     {
         match x {
-            Setting::Uni => one(whole(0, 4)),
-            Setting::Fil => self.per_channel(whole(0, 3)),
-            Setting::Cal => self.per_channel(factor()),
-            Setting::Dcd => self.per_channel(whole(0, 4)),
-            Setting::Sp(_) => Kinds {
-                count: 3,
-                first: self.assignment(),
-                second: Kind::Threshold,
-                third: Kind::Threshold,
-            },
+            Setting::Uni => self.unit_kinds(),
+            Setting::Fil => self.filter_kinds(),
+            Setting::Cal => self.factor_kinds(),
+            Setting::Dcd => self.resolution_kinds(),
+            Setting::Sp(_) => self.switching_kinds(),
             Setting::Stored(k) => self.stored_kinds(k),
         }
     }
@@ -148,8 +192,8 @@ impl Model {
             Mnemonic::Setting(x) => self.setting_kinds(x),
             Mnemonic::Cf(_) => one(factor()),
             Mnemonic::Query(_) => none(),
-            Mnemonic::Com => one(whole(0, 2)),
-            Mnemonic::Sav => one(whole(0, 1)),
+            Mnemonic::Com => one_whole(0, 2),
+            Mnemonic::Sav => one_whole(0, 1),
         }
     }
 }

@@ -1,20 +1,21 @@
--- The test from the place i to b is the test from a to b.
+-- What was found up to the place i, with the test from i to b, is the test from a to b.
 use Prim.Native.Nat.{_-_}
 use mathlib.Core.Path.{_≡_, refl, sym, _∙_}
+use mathlib.Core.Bool.{_&&_}
 use lib.ListN.{length, take, drop}
 use Rattle.settings.specs.Lists.{every}
 use Rattle.ports.specs.Limits.{inRange}
-use Rattle.ports.proofs.Ranges.{hit, miss, end}
+use Rattle.ports.proofs.Ranges.{next, end}
 use borrow.Author.Needs.{needs}
 use native.Mathlib.Omega.{arith}
 use Rattle.ports.proofs.limits.all_within.Statement.{statement}
 use Rattle.ports.proofs.limits.all_within.Tie as tie
 
 abbrev Inv-loop : tie.InvT-loop
-Inv-loop a b low high line i₀ i = every (inRange low high) (take (b - i) (drop i line)) ≡ every (inRange low high) (take (b - a) (drop a line))
+Inv-loop a b low high line all₀ i₀ all i = all && every (inRange low high) (take (b - i) (drop i line)) ≡ every (inRange low high) (take (b - a) (drop a line))
 
 abbrev μ-loop : tie.MeasureT-loop
-μ-loop a b low high line i₀ i = b - i
+μ-loop a b low high line all₀ i₀ all i = b - i
 
 loop-holds : tie.Need-loop-holds Inv-loop μ-loop
 loop-holds c = refl
@@ -30,25 +31,18 @@ loop-less c = search needs
 
 loop-again : tie.Need-loop-again Inv-loop μ-loop
 loop-again c =
-    let a = c .before .before .before .args in
-    let l = c .before .before .loop in
+    let a = c .before .before .args in
+    let l = c .before .loop in
     let n : length (a .t1) ≡ 80 = search needs in
-    sym (hit (inRange (a .low) (a .high)) (a .t1) (l .i) (a .b) (c .before .loop-test .taken) (omega arith) (c .if1 .taken)) ∙ l .inv
+    next (inRange (a .low) (a .high)) (a .t1) (l .i) (a .b) (l .all) (c .loop-test .taken) (omega arith) ∙ l .inv
 
 returns : tie.Need-returns Inv-loop μ-loop
 returns c =
-    let a = c .before .before .before .args in
-    let l = c .before .before .loop in
-    let n : length (a .t1) ≡ 80 = search needs in
-    sym (miss (inRange (a .low) (a .high)) (a .t1) (l .i) (a .b) (c .before .loop-test .taken) (omega arith) (c .if1 .left)) ∙ l .inv
-
-returns-2 : tie.Need-returns-2 Inv-loop μ-loop
-returns-2 c =
     let a = c .before .before .args in
     let l = c .before .loop in
-    sym (end (inRange (a .low) (a .high)) (a .t1) (l .i) (a .b) (c .loop-test .left)) ∙ l .inv
+    sym (end (inRange (a .low) (a .high)) (a .t1) (l .i) (a .b) (l .all) (c .loop-test .left)) ∙ l .inv
 
 pub all-within-spec : {M : Type 1} → statement M
 all-within-spec =
     tie.close
-    (tie.spec Inv-loop μ-loop loop-holds array-read-x add-i loop-less loop-again returns returns-2)
+    (tie.spec Inv-loop μ-loop loop-holds array-read-x add-i loop-less loop-again returns)

@@ -26,20 +26,14 @@ none-requires c κs = search needs
 enum-told-3 : tie.Need-enum-told-3
 enum-told-3 c = search needs
 
-whole-requires : tie.Need-whole-requires
-whole-requires c κs = search needs
-
-one-requires-2 : tie.Need-one-requires-2
-one-requires-2 c κs = search needs
+one-whole-requires : tie.Need-one-whole-requires
+one-whole-requires c κs = search needs
 
 enum-told-4 : tie.Need-enum-told-4
 enum-told-4 c = search needs
 
-whole-requires-2 : tie.Need-whole-requires-2
-whole-requires-2 c κs = search needs
-
-one-requires-3 : tie.Need-one-requires-3
-one-requires-3 c κs = search needs
+one-whole-requires-2 : tie.Need-one-whole-requires-2
+one-whole-requires-2 c κs = search needs
 
 returns : tie.Need-returns
 returns c = rw (c .setting-kinds .ensures, c .before .before .m .given .1)
@@ -51,10 +45,10 @@ returns-3 : tie.Need-returns-3
 returns-3 c = rw (c .none .ensures, c .before .enum-told2 .given .1)
 
 returns-4 : tie.Need-returns-4
-returns-4 c = rw (c .one2 .ensures, c .before .whole .ensures, c .before .before .enum-told3 .given .1)
+returns-4 c = rw (c .one-whole .ensures, c .before .enum-told3 .given .1)
 
 returns-5 : tie.Need-returns-5
-returns-5 c = rw (c .one3 .ensures, c .before .whole2 .ensures, c .before .before .enum-told4 .given .1)
+returns-5 c = rw (c .one-whole2 .ensures, c .before .enum-told4 .given .1)
 
 pub shape-spec : {M : Type 1} → statement M
 shape-spec =
@@ -68,11 +62,9 @@ shape-spec =
     enum-told-2
     none-requires
     enum-told-3
-    whole-requires
-    one-requires-2
+    one-whole-requires
     enum-told-4
-    whole-requires-2
-    one-requires-3
+    one-whole-requires-2
     returns
     returns-2
     returns-3

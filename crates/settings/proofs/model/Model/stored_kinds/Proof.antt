@@ -21,35 +21,31 @@ returns c =
     c .one .ensures ∙ ap (λ (x : Kind). packed (x ∷ [])) (c .before .assignment .ensures)
     ∙ ap (λ (k : ℕ). packed (storedKinds (c .before .before .before .args .self) k)) (sym (c .before .before .if1 .taken))
 
-sub-whole : tie.Need-sub-whole
-sub-whole c = search needs
+sub-one-whole : tie.Need-sub-one-whole
+sub-one-whole c = search needs
 
-mul-whole : tie.Need-mul-whole
-mul-whole c = search needs
+mul-one-whole : tie.Need-mul-one-whole
+mul-one-whole c = search needs
 
-array-read-whole : tie.Need-array-read-whole
-array-read-whole c = search needs
+array-read-one-whole : tie.Need-array-read-one-whole
+array-read-one-whole c = search needs
 
-sub-whole-2 : tie.Need-sub-whole-2
-sub-whole-2 c = search needs
+sub-one-whole-2 : tie.Need-sub-one-whole-2
+sub-one-whole-2 c = search needs
 
-mul-whole-2 : tie.Need-mul-whole-2
-mul-whole-2 c = search needs
+mul-one-whole-2 : tie.Need-mul-one-whole-2
+mul-one-whole-2 c = search needs
 
-array-read-whole-2 : tie.Need-array-read-whole-2
-array-read-whole-2 c = search needs
+array-read-one-whole-2 : tie.Need-array-read-one-whole-2
+array-read-one-whole-2 c = search needs
 
-whole-requires : tie.Need-whole-requires
-whole-requires c κs = search needs
-
-one-requires-2 : tie.Need-one-requires-2
-one-requires-2 c κs = search needs
+one-whole-requires : tie.Need-one-whole-requires
+one-whole-requires c κs = search needs
 
 returns-2 : tie.Need-returns-2
 returns-2 c =
-    let a = c .before .before .before .before .args in
-    c .one2 .ensures ∙ ap (λ (x : Kind). packed (x ∷ [])) (c .before .whole .ensures)
-    ∙ ap packed (sym (stored-entry (a .self) (a .k) (c .before .before .if2 .taken) (c .before .before .before .if1 .left)))
+    let a = c .before .before .before .args in
+    c .one-whole .ensures ∙ ap packed (sym (stored-entry (a .self) (a .k) (c .before .if2 .taken) (c .before .before .if1 .left)))
 
 none-requires : tie.Need-none-requires
 none-requires c κs = search needs
@@ -66,14 +62,13 @@ stored-kinds-spec =
     assignment-requires
     one-requires
     returns
-    sub-whole
-    mul-whole
-    array-read-whole
-    sub-whole-2
-    mul-whole-2
-    array-read-whole-2
-    whole-requires
-    one-requires-2
+    sub-one-whole
+    mul-one-whole
+    array-read-one-whole
+    sub-one-whole-2
+    mul-one-whole-2
+    array-read-one-whole-2
+    one-whole-requires
     returns-2
     none-requires
     returns-3)

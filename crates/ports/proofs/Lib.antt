@@ -1,3 +1,4 @@
 pub mod Gathering
 pub mod Ranges
 pub mod Kept
+pub mod Characters

@@ -1,7 +1,8 @@
 -- One byte of the host (01, "Bytes from the host").
 use Prim.Native.Nat.{ℕ}
+use mathlib.Core.List.{List, [], _∷_}
 use mathlib.Core.Bool.{Bool, true, false, cond, _&&_, _||_}
-use lib.Dec.{eqb, ltb}
+use lib.Dec.{eqb, leb, ltb}
 use Rattle.settings.specs.Models.{powerOnMode}
 use Rattle.settings.specs.Mnemonics.{isErr}
 use Rattle.settings.specs.declared.model.Model.{Model}
@@ -137,3 +138,25 @@ unfoldable pub heard : Model → Port → ℕ → Heard
 heard model p b =
     let q = withMark p false in
     cond (p .ended && eqb b 10) (quiet q) (byKind model (kindOf b) (stopped q) b)
+
+-- "Every host byte stops the stream", and no byte but a CR is one that an LF can stand "straight after"
+abbrev pub settled : Port → Port
+settled p = stopped (withMark p false)
+
+-- a character or a space: no "byte below 32", nor "one of 127 and above"
+abbrev pub isTyped : ℕ → Bool
+isTyped b = leb 32 b && leb b 126
+
+-- the characters and spaces before the first byte that is none, as the CR that "ends a line"
+unfoldable pub typing : List ℕ → List ℕ
+typing [] = []
+typing (b ∷ bs) = cond (isTyped b) (b ∷ typing bs) []
+
+-- one of them: "every space, is dropped", and "A line holds up to 80 characters, spaces not counted."
+unfoldable pub typedOne : Port → ℕ → Port
+typedOne p b = cond (eqb b 32) (settled p) (grown (settled p) b)
+
+-- one after the other: "An 81st .. makes it bad"
+unfoldable pub typedAll : Port → List ℕ → Port
+typedAll p [] = p
+typedAll p (b ∷ bs) = typedAll (typedOne p b) bs

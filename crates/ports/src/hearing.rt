@@ -21,7 +21,7 @@ const ETX: u8 = 3;
 
 const ENQ: u8 = 5;
 
-const SPACE: u8 = 32;
+pub(crate) const SPACE: u8 = 32;
 
 const DEL: u8 = 127;
 

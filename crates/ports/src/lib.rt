@@ -7,6 +7,7 @@ pub mod hearing;
 pub mod limits;
 pub mod line;
 pub mod stream;
+pub mod typing;
 
 // The mnemonic that an ENQ is answered with.
 pub enum Selection {

@@ -12,7 +12,7 @@ use settings::model::Model;
 // The least and the greatest character.
 const LEAST: u8 = 33;
 
-const MOST: u8 = 126;
+pub(crate) const MOST: u8 = 126;
 
 // Whether the places from a to b hold bytes from low to high; no early end, so that the compiler tests many at once.
 fn all_within(line: [u8; 80], a: usize, b: usize, low: u8, high: u8) -> bool

@@ -6,21 +6,26 @@ use native.Mathlib.Omega.{arith}
 use native.Mathlib.Nat.{zero-add, add-zero}
 use native.Mathlib.Numerals.{add-one}
 use borrow.Author.Tests.{le-leb, lt-leb}
-use lib.ListN.{length, getD, take, drop, length-append, drop-of-length-le}
+use lib.ListN.{length, getD, take, drop, length-append, length-drop, drop-of-length-le}
 use lib.Seq.{take-suc, drop-cons}
-use mathlib.Core.Bool.{false}
-use Rattle.numbers.proofs.Cases.{never}
+use mathlib.Core.Bool.{true}
+use Rattle.numbers.proofs.Cases.{cond-cases}
+use Rattle.text.specs.Text.{empty, puts, laid, after as end}
+use Rattle.text.specs.declared.Text.{Text}
+use Rattle.ports.specs.Hearing.{quiet, isTyped, typing, typedOne, typedAll}
 use Rattle.ports.specs.declared.Event.{Event}
-use Rattle.ports.specs.declared.Event.the-variants.{Silent, Line, Reply}
+use Rattle.ports.specs.declared.Event.the-variants.{Silent}
 use Rattle.ports.specs.declared.Heard.{Heard}
 use Rattle.ports.specs.declared.Port.{Port}
+use Rattle.ports.specs.declared.typing.Typed.{Typed}
+use Rattle.ports.proofs.Characters.{typing-more, typed-heard}
 use Rattle.shared.specs.declared.Shared.{Shared}
 use Rattle.tpg.specs.Answers.{done, leastOutput}
-use Rattle.tpg.specs.Steps.{eventText, isLoud, acted, hearing, next, sent, after, said, taken, over, laidAt}
+use Rattle.tpg.specs.Steps.{eventText, acted, hearing, next, sent, after, said, taken, over, laidAt}
 use Rattle.tpg.specs.Calls.{hostText, hosted}
 use Rattle.tpg.specs.declared.State.{State}
-use Rattle.tpg.proofs.Laying.{over-more, over-length, laid-nothing}
-use Rattle.tpg.proofs.Sending.{sent-length}
+use Rattle.tpg.proofs.Laying.{over-more, over-length, laid-nothing, copied}
+use Rattle.tpg.proofs.Sending.{event-length, sent-length}
 
 pub after-append : (xs ys : List ℕ) (s : State) → after s (xs ++ ys) ≡ after (after s xs) ys
 unfolding after
@@ -60,12 +65,6 @@ module _ (s : State) where
   pub taken-end : (l : List ℕ) (i f : ℕ) → length l ≤ i → taken s (drop i l) f ≡ 0
   unfolding taken
   taken-end l i f h = rw (drop-of-length-le l {i = i} h)
-
-nothing-done : (s : Shared) (e : Event) → isLoud e ≡ false → (acted s e ≡ s) × (eventText s e ≡ [])
-unfolding eventText
-nothing-done s Silent q = (refl, refl)
-nothing-done s (Line v) q = never (cc)
-nothing-done s (Reply m error) q = never (cc)
 
 -- where a run stands after t bytes that sent w
 pub record Going (s : State) (input out₀ : List ℕ) (shared : Shared) (port : Port) (out : List ℕ) (t w : ℕ) : Type 0 where
@@ -114,22 +113,33 @@ module _ {s : State} {input out₀ : List ℕ} {shared : Shared} {port : Port} {
   pub same-length : length out ≡ length out₀
   same-length = rw (g .bytes) (over-length (said s (take t input)) out₀ (omega (arith, g .count, g .inside)))
 
-  -- a byte that was heard, and the event that was met
-  module _ (h : Heard) (more : t < length input) (room : w + leastOutput ≤ length out₀) (e : h ≡ hearing now byte) where
-    pub loud : (shared' : Shared) (out' : List ℕ) (w' : ℕ) → shared' ≡ acted shared (h .event) → out' ≡ laidAt w (eventText shared (h .event)) out
-        → w' ≡ w + length (eventText shared (h .event)) → Going s input out₀ shared' (h .port) out' (t + 1) w'
+  room : leastOutput ≤ length out - w → w + leastOutput ≤ length out₀
+  room free = omega (arith, g .inside, same-length)
+
+  -- a byte that was heard, by its event
+  module _ (h : Heard) (more : t < length input) (free : leastOutput ≤ length out - w) (hears : h ≡ hearing now byte) where
+    met : (e : Event) (shared' : Shared) (out' : List ℕ) (w' : ℕ) → h .event ≡ e → shared' ≡ acted shared e → out' ≡ laidAt w (eventText shared e) out
+        → w' ≡ w + length (eventText shared e) → Going s input out₀ shared' (h .port) out' (t + 1) w'
     unfolding next sent
-    loud shared' out' w' state bytes count =
-        let text : eventText shared (h .event) ≡ sent now byte = ap (λ (x : Heard). eventText shared (x .event)) e in
-        let after : shared' ≡ acted shared (hearing now byte .event) = state ∙ ap (λ (x : Heard). acted shared (x .event)) e in
-        step shared' (h .port) out' w' more room (sent-length now byte) (λ i. record { shared = after i; port = e i .port })
+    met e shared' out' w' is state bytes count =
+        let told : e ≡ hearing now byte .event = sym is ∙ ap (λ (x : Heard). x .event) hears in
+        let text : eventText shared e ≡ sent now byte = ap (eventText shared) told in
+        let after : shared' ≡ acted shared (hearing now byte .event) = state ∙ ap (acted shared) told in
+        step shared' (h .port) out' w' more (room free) (sent-length now byte) (λ i. record { shared = after i; port = hears i .port })
         (bytes ∙ ap (λ (x : List ℕ). laidAt w x out) text) (count ∙ ap (λ (x : List ℕ). w + length x) text)
 
-    -- where nothing is to be done the shared part and the output are not touched
-    pub silent : isLoud (h .event) ≡ false → Going s input out₀ shared (h .port) out (t + 1) w
-    silent q =
-        let n = nothing-done shared (h .event) q in
-        loud shared out w (sym (n .0)) (rw (n .1) (laid-nothing w out)) (rw (n .1) (sym (add-zero w)))
+    -- nothing is sent and nothing changed
+    pub silent : h .event ≡ Silent → Going s input out₀ shared (h .port) out (t + 1) w
+    unfolding eventText
+    silent is = met Silent shared out w is refl (laid-nothing w out) (sym (add-zero w))
+
+    -- its text is laid into the output
+    pub answered : (e : Event) (x : Text) (shared' : Shared) (out' : List ℕ) (w' : ℕ) → h .event ≡ e → x ≡ puts empty (eventText shared e) → shared' ≡ acted shared e
+        → (w' ≡ end x out w) × (out' ≡ laid x out w) → Going s input out₀ shared' (h .port) out' (t + 1) w'
+    answered e x shared' out' w' is filled state copy =
+        let short : length (eventText shared e) ≤ leastOutput = event-length shared e in
+        let k = copied x (eventText shared e) out w filled short (omega (arith, room free, same-length)) in
+        met e shared' out' w' is state (copy .1 ∙ k .1) (copy .0 ∙ k .0)
 
   module _ (none : taken now (drop t input) (length out₀ - w) ≡ 0) where
     all-taken : taken s input (length out₀) ≡ t
@@ -138,3 +148,27 @@ module _ {s : State} {input out₀ : List ℕ} {shared : Shared} {port : Port} {
     pub ended : (done now t w ≡ hosted s input (length out₀)) × (out ≡ over (hostText s input (length out₀)) out₀)
     unfolding hosted
     ended = rw all-taken ((λ i. done (g .state i) t (g .count i)), g .bytes)
+
+-- a run of characters and spaces: each is taken, and none sends anything
+typed-run : {s : State} {input out₀ : List ℕ} {shared : Shared} {port : Port} {out : List ℕ} {t w : ℕ} (bs : List ℕ) → Going s input out₀ shared port out t w
+    → leastOutput ≤ length out - w → drop t input ≡ bs → Going s input out₀ shared (typedAll port (typing bs)) out (t + length (typing bs)) w
+unfolding typing typedAll
+typed-run {t = t} [] g free e = rw (add-zero t) g
+typed-run {s} {input} {out₀} {shared} {port} {out} {t} {w} (b ∷ bs) g free e =
+    let more : t < length input = omega (arith, length-drop t input, ap length e) in
+    let split : getD input t 0 ∷ drop (t + 1) input ≡ b ∷ bs = rw (add-one t) (sym (drop-cons input t 0 more) ∙ e) in
+    let here : getD input t 0 ≡ b = cc in
+    let rest : drop (t + 1) input ≡ bs = cc in
+    cond-cases (λ (l : List ℕ). Going s input out₀ shared (typedAll port l) out (t + length l) w) (isTyped b) (b ∷ typing bs) []
+    (λ typed.
+    let one = silent g (quiet (typedOne port b)) more free (rw here (sym (typed-heard (shared .model) port b typed))) refl in
+    let n : (t + 1) + length (typing bs) ≡ t + length (b ∷ typing bs) = omega arith in
+    rw n at (typed-run bs one free rest)) (λ _. rw (add-zero t) g)
+
+module _ {s : State} {input out₀ : List ℕ} {shared : Shared} {port : Port} {out : List ℕ} {t w : ℕ} (g : Going s input out₀ shared port out t w) (r : Typed)
+    (e : r ≡ record { port = typedAll port (typing (drop t input)); at = t + length (typing (drop t input)) }) where
+  pub typed : leastOutput ≤ length out - w → Going s input out₀ shared (r .port) out (r .at) w
+  typed free = rw e (typed-run (drop t input) g free refl)
+
+  pub farther : t < length input → isTyped (getD input t 0) ≡ true → t < r .at
+  farther more q = rw e (omega (arith, ap length (typing-more input t more q)))

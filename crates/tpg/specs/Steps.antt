@@ -1,7 +1,7 @@
 -- One byte of the host, and a run of bytes (01, "Bytes from the host" and "Answer numbers of the calls").
 use Prim.Native.Nat.{ℕ, suc, _+_, _-_}
 use mathlib.Core.List.{List, [], _∷_, _++_}
-use mathlib.Core.Bool.{Bool, true, false, cond}
+use mathlib.Core.Bool.{cond}
 use lib.ListN.{length, take, drop}
 use lib.Dec.{leb}
 use Rattle.lines.specs.Replies.{lineEnd}
@@ -28,12 +28,6 @@ unfoldable pub eventText : Shared → Event → List ℕ
 eventText s Silent = []
 eventText s (Line v) = lineText v
 eventText s (Reply m error) = replyText s error m
-
--- there is something to be done
-abbrev pub isLoud : Event → Bool
-isLoud Silent = false
-isLoud (Line v) = true
-isLoud (Reply m error) = true
 
 -- what an event does to the shared part: only a line can change it
 abbrev pub acted : Shared → Event → Shared

@@ -1,13 +1,13 @@
 -- What is left to take from here is what was left at the start, less what was taken.
-use mathlib.Core.Path.{sym, ap, _∙_}
-use Prim.Native.Nat.{_+_, _-_, _≤_, _<_}
+use mathlib.Core.Path.{refl, sym, _∙_}
+use Prim.Native.Nat.{_-_, _<_}
 use native.Mathlib.Omega.{arith}
 use borrow.Author.Needs.{needs}
 use denote.Ref.{now}
 use lib.ListN.{length}
 use Rattle.tpg.specs.Answers.{leastOutput}
-use Rattle.tpg.specs.declared.host.Turn.{Turn}
-use Rattle.tpg.proofs.Runs.{Going, start, loud, silent, ended, same-length as length-kept, taken-full, taken-end}
+use Rattle.tpg.specs.Steps.{eventText}
+use Rattle.tpg.proofs.Runs.{Going, start, silent, answered, typed, farther, ended, same-length as length-kept, taken-full, taken-end}
 use Rattle.tpg.proofs.State.run.Statement.{statement}
 use Rattle.tpg.proofs.State.run.Tie as tie
 
@@ -42,8 +42,26 @@ returns c =
     let e = ended g (taken-full _ _ _ full) in
     (c .finished .ensures ∙ e .0, e .1)
 
-shared-slice-read-byte : tie.Need-shared-slice-read-byte Inv-loop μ-loop
-shared-slice-read-byte c = search needs
+shared-slice-read-b : tie.Need-shared-slice-read-b Inv-loop μ-loop
+shared-slice-read-b c = search needs
+
+is-typed-requires : tie.Need-is-typed-requires Inv-loop μ-loop
+is-typed-requires c κs = search needs
+
+typed-requires : tie.Need-typed-requires Inv-loop μ-loop
+typed-requires c κs = search needs
+
+loop-less : tie.Need-loop-less Inv-loop μ-loop
+loop-less c =
+    let b = c .before .before .before in
+    let d = b .before .before .before in
+    let h = farther (d .before .loop .inv) (c .before .typed .result) (c .before .typed .ensures) (d .loop-test .taken) (sym (b .is-typed .ensures) ∙ c .before .before .if2 .taken) in
+    omega (arith, h, d .loop-test .taken)
+
+loop-again : tie.Need-loop-again Inv-loop μ-loop
+loop-again c =
+    let d = c .before .before .before .before .before in
+    typed (d .before .before .loop .inv) (c .before .typed .result) (c .before .typed .ensures) (d .if1 .left)
 
 byte-requires : tie.Need-byte-requires Inv-loop μ-loop
 byte-requires c κs = search needs
@@ -51,24 +69,8 @@ byte-requires c κs = search needs
 add-taken : tie.Need-add-taken Inv-loop μ-loop
 add-taken c = omega arith
 
-is-loud-requires : tie.Need-is-loud-requires Inv-loop μ-loop
-is-loud-requires c κs = search needs
-
-meet-requires : tie.Need-meet-requires Inv-loop μ-loop
-meet-requires c κs = omega (arith, c .before .before .before .before .before .before .if1 .left)
-
-loop-less : tie.Need-loop-less Inv-loop μ-loop
-loop-less c = omega arith
-
-loop-again : tie.Need-loop-again Inv-loop μ-loop
-loop-again c =
-    let b = c .before .before .before .before .before .before .before .before in
-    let l = b .before .before .before .before .loop in
-    let g = l .inv in
-    let m = c .before .before .before .meet in
-    let room : l .written + leastOutput ≤ length (now (b .before .before .before .before .before .before .before .before .before .args .out)) = omega (arith, g .inside, length-kept g, b .before .before .if1 .left) in
-    loud g (b .byte .result) (b .before .before .before .loop-test .taken) room (b .byte .ensures) _ _ _
-    (ap (λ (x : Turn). x .shared) (m .ensures .0)) (m .ensures .1) (ap (λ (x : Turn). x .at) (m .ensures .0))
+enum-told : tie.Need-enum-told Inv-loop μ-loop
+enum-told c = search needs
 
 loop-less-2 : tie.Need-loop-less-2 Inv-loop μ-loop
 loop-less-2 c = omega arith
@@ -76,10 +78,59 @@ loop-less-2 c = omega arith
 loop-again-2 : tie.Need-loop-again-2 Inv-loop μ-loop
 loop-again-2 c =
     let b = c .before .before .before in
-    let l = b .before .before .before .before .loop in
-    let g = l .inv in
-    let room : l .written + leastOutput ≤ length (now (b .before .before .before .before .before .before .before .before .before .args .out)) = omega (arith, g .inside, length-kept g, b .before .before .if1 .left) in
-    silent g (b .byte .result) (b .before .before .before .loop-test .taken) room (b .byte .ensures) (sym (c .before .is-loud .ensures) ∙ c .if2 .left)
+    let d = b .before .before .before .before in
+    silent (d .before .before .loop .inv) (b .byte .result) (d .before .loop-test .taken) (d .if1 .left) (b .byte .ensures) (c .enum-told .given .1)
+
+enum-known-event : tie.Need-enum-known-event Inv-loop μ-loop
+enum-known-event c = search needs
+
+line-text-requires : tie.Need-line-text-requires Inv-loop μ-loop
+line-text-requires c κs = search needs
+
+copy-requires : tie.Need-copy-requires Inv-loop μ-loop
+copy-requires c κs = search needs
+
+heard-requires : tie.Need-heard-requires Inv-loop μ-loop
+heard-requires c κs = search needs
+
+loop-less-3 : tie.Need-loop-less-3 Inv-loop μ-loop
+loop-less-3 c =
+    let b = c .before .before .before .before .before .before .before .before .before .before in
+    omega (arith, b .before .before .before .before .before .loop-test .taken)
+
+loop-again-3 : tie.Need-loop-again-3 Inv-loop μ-loop
+unfolding eventText
+loop-again-3 c =
+    let k = c .before .before .before in
+    let v = k .before .before .before .before in
+    let b = v .before .before .before in
+    let d = b .before .before .before .before in
+    answered (d .before .before .loop .inv) (b .byte .result) (d .before .loop-test .taken) (d .if1 .left) (b .byte .ensures) _ (k .before .before .line-text .result) _ _ _
+    (v .event .given .1) (k .before .before .line-text .ensures) (c .heard .ensures) (k .copy .ensures)
+
+enum-known-event-2 : tie.Need-enum-known-event-2 Inv-loop μ-loop
+enum-known-event-2 c = search needs
+
+reply-requires : tie.Need-reply-requires Inv-loop μ-loop
+reply-requires c κs = search needs
+
+copy-requires-2 : tie.Need-copy-requires-2 Inv-loop μ-loop
+copy-requires-2 c κs = search needs
+
+loop-less-4 : tie.Need-loop-less-4 Inv-loop μ-loop
+loop-less-4 c =
+    let b = c .before .before .before .before .before .before .before .before .before in
+    omega (arith, b .before .before .before .before .before .loop-test .taken)
+
+loop-again-4 : tie.Need-loop-again-4 Inv-loop μ-loop
+unfolding eventText
+loop-again-4 c =
+    let k = c .before .before in
+    let v = k .before .before .before .before in
+    let b = v .before .before .before in
+    let d = b .before .before .before .before in
+    answered (d .before .before .loop .inv) (b .byte .result) (d .before .loop-test .taken) (d .if1 .left) (b .byte .ensures) _ (k .before .before .reply .result) _ _ _
+    (v .event2 .given .1) (k .before .before .reply .ensures) refl (k .copy2 .ensures)
 
 finished-requires-2 : tie.Need-finished-requires-2 Inv-loop μ-loop
 finished-requires-2 c κs = search needs
@@ -104,15 +155,27 @@ run-spec =
     finished-requires
     same-length
     returns
-    shared-slice-read-byte
-    byte-requires
-    add-taken
-    is-loud-requires
-    meet-requires
+    shared-slice-read-b
+    is-typed-requires
+    typed-requires
     loop-less
     loop-again
+    byte-requires
+    add-taken
+    enum-told
     loop-less-2
     loop-again-2
+    enum-known-event
+    line-text-requires
+    copy-requires
+    heard-requires
+    loop-less-3
+    loop-again-3
+    enum-known-event-2
+    reply-requires
+    copy-requires-2
+    loop-less-4
+    loop-again-4
     finished-requires-2
     same-length-2
     returns-2)

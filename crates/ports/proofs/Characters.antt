@@ -1,0 +1,136 @@
+-- A run of characters and spaces: gathered in one go, it is what it is byte by byte.
+use Prim.Native.Nat.{ℕ, _+_, _≤_, _<_}
+use mathlib.Core.Path.{_≡_, refl, ap, _∙_}
+use mathlib.Core.List.{List, [], _∷_}
+use mathlib.Core.Bool.{Bool, true, false, cond, not, _&&_}
+use native.Mathlib.Omega.{arith}
+use native.Mathlib.Nat.{add-zero}
+use native.Mathlib.Numerals.{add-one}
+use borrow.Author.Tests.{lt-ltb, le-ltb, ne-eqb, eqb-false, not-true}
+use lib.ListN.{length, getD, set, drop, drop-of-length-le}
+use lib.Seq.{drop-cons}
+use lib.Dec.{eqb, ltb}
+use Rattle.numbers.proofs.Cases.{never, and-true, ranged}
+use Rattle.settings.specs.declared.model.Model.{Model}
+use Rattle.ports.specs.Line.{blank, withLine, grown}
+use Rattle.ports.specs.Hearing.{kindOf, withMark, settled, quiet, byKind, heard, isTyped, typing, typedOne, typedAll}
+use Rattle.ports.specs.declared.Port.{Port}
+use Rattle.ports.specs.declared.typing.Typed.{Typed}
+use Rattle.ports.specs.declared.hearing.ByteKind.the-variants.{Dropped, Character, Spoiling}
+
+-- ---- the typed bytes from a place on
+
+module _ (input : List ℕ) (i : ℕ) where
+  pub typing-more : i < length input → isTyped (getD input i 0) ≡ true → typing (drop i input) ≡ getD input i 0 ∷ typing (drop (i + 1) input)
+  unfolding typing
+  typing-more h e = rw (drop-cons input i 0 h, add-one i) (rw e)
+
+  pub typing-other : i < length input → isTyped (getD input i 0) ≡ false → typing (drop i input) ≡ []
+  unfolding typing
+  typing-other h e = rw (drop-cons input i 0 h) (rw e)
+
+  pub typing-end : length input ≤ i → typing (drop i input) ≡ []
+  unfolding typing
+  typing-end h = rw (drop-of-length-le input {i = i} h)
+
+-- ---- one byte
+
+either : {A : Type 0} (s t : Bool) (x y : A) → not s && not t ≡ false → cond s x (cond t x y) ≡ x
+either true t x y h = refl
+either false true x y h = refl
+either false false x y h = never (cc)
+
+neither : (s t : Bool) → not s && not t ≡ true → (s ≡ false) × (t ≡ false)
+neither s t h = let b = and-true (not s) (not t) h in (not-true s (b .0), not-true t (b .1))
+
+never-both : {A : Type 0} (t : Bool) (x y : A) → cond (t && false) x y ≡ y
+never-both true x y = refl
+never-both false x y = refl
+
+-- a typed byte is none of those below the space
+module _ (b : ℕ) (e : isTyped b ≡ true) where
+  range : (32 ≤ b) × (b ≤ 126)
+  range = ranged 32 126 b e
+
+  other : (n : ℕ) → n < 32 → eqb b n ≡ false
+  other n h = ne-eqb b n (λ q. omega (arith, range .0))
+
+  kind-typed : kindOf b ≡ cond (eqb b 32) Dropped Character
+  unfolding kindOf
+  kind-typed = rw (other 13 (omega arith), other 10 (omega arith), other 3 (omega arith), other 5 (omega arith)) (by (eqb b 32) refl)
+    where
+      by : (t : Bool) → eqb b 32 ≡ t → cond t Dropped (cond (ltb 32 b && ltb b 127) Character Spoiling) ≡ cond t Dropped Character
+      by true q = refl
+      by false q =
+          let n = eqb-false b 32 q in
+          rw (lt-ltb 32 b (omega (arith, range .0, n)), lt-ltb b 127 (omega (arith, range .1)))
+
+-- whatever the model, and straight after a CR too
+pub typed-heard : (model : Model) (p : Port) (b : ℕ) → isTyped b ≡ true → heard model p b ≡ quiet (typedOne p b)
+unfolding heard typedOne byKind
+typed-heard model p b e =
+    rw (other b e 10 (omega arith), never-both (p .ended) (quiet (withMark p false)) (byKind model (kindOf b) (settled p) b), kind-typed b e) (by (eqb b 32))
+  where
+    by : (t : Bool) → byKind model (cond t Dropped Character) (settled p) b ≡ quiet (cond t (settled p) (grown (settled p) b))
+    by true = refl
+    by false = refl
+
+-- ---- the run
+
+-- where the gathering stands at the place i, with the line so far
+pub record Gathering (p : Port) (input : List ℕ) (from : ℕ) (line : List ℕ) (len : ℕ) (bad : Bool) (i : ℕ) : Type 0 where
+  pub port : typedAll (settled p) (typing (drop from input)) ≡ typedAll (withLine (settled p) line len bad) (typing (drop i input))
+  pub count : from + length (typing (drop from input)) ≡ i + length (typing (drop i input))
+
+pub start : (p : Port) (input : List ℕ) (from : ℕ) → Gathering p input from (p .line) (p .len) (p .bad) from
+start p input from = record { port = refl; count = refl }
+
+-- the port before the run is settled by its first byte, where there is one
+settled-first : (p : Port) (from i : ℕ) (bs : List ℕ) → from + length bs ≡ i → cond (ltb from i) (typedAll (settled p) bs) p ≡ typedAll p bs
+unfolding typedAll typedOne
+settled-first p from i [] e = rw (le-ltb from i (omega arith))
+settled-first p from i (b ∷ bs) e = rw (lt-ltb from i (omega arith))
+
+module _ {p : Port} {input : List ℕ} {from : ℕ} {line : List ℕ} {len : ℕ} {bad : Bool} {i : ℕ} (g : Gathering p input from line len bad i) where
+  abbrev now : Port
+  now = withLine (settled p) line len bad
+
+  abbrev byte : ℕ
+  byte = getD input i 0
+
+  -- a byte more, by the tests of the code
+  module _ (more : i < length input) (typed : isTyped byte ≡ true) where
+    step : (line' : List ℕ) (len' : ℕ) (bad' : Bool) → typedOne now byte ≡ withLine (settled p) line' len' bad' → Gathering p input from line' len' bad' (i + 1)
+    unfolding typedAll
+    step line' len' bad' q =
+        let m = typing-more input i more typed in
+        record {
+          port = g .port ∙ ap (typedAll now) m ∙ ap (λ (x : Port). typedAll x (typing (drop (i + 1) input))) q;
+          count = g .count ∙ rw m (omega arith);
+        }
+
+    pub kept : not (eqb byte 32) && not bad ≡ false → Gathering p input from line len bad (i + 1)
+    unfolding typedOne grown
+    kept h = step line len bad (either (eqb byte 32) bad now _ h)
+
+    module _ (h : not (eqb byte 32) && not bad ≡ true) where
+      tests : (eqb byte 32 ≡ false) × (bad ≡ false)
+      tests = neither (eqb byte 32) bad h
+
+      pub longer : len < 80 → Gathering p input from (set line len byte) (len + 1) bad (i + 1)
+      unfolding typedOne grown
+      longer l = step (set line len byte) (len + 1) bad (rw (tests .0, tests .1, lt-ltb len 80 l))
+
+      pub spoils : 80 ≤ len → Gathering p input from blank 0 true (i + 1)
+      unfolding typedOne grown
+      spoils l = step blank 0 true (rw (tests .0, tests .1, le-ltb len 80 l))
+
+  pub ended : typing (drop i input) ≡ []
+      → _≡_ {A = Typed} (record { port = cond (ltb from i) now p; at = i })
+      (record { port = typedAll p (typing (drop from input)); at = from + length (typing (drop from input)) })
+  unfolding typedAll
+  ended e =
+      let bs = typing (drop from input) in
+      let at : from + length bs ≡ i = g .count ∙ rw e (add-zero i) in
+      let port : typedAll (settled p) bs ≡ now = g .port ∙ ap (typedAll now) e in
+      rw (at, ← port, settled-first p from i bs at)

@@ -1,0 +1,109 @@
+-- An input line answered: what was read of it is enough, and what was sent is turned into the output line.
+use Prim.Native.Nat.{ℕ, _+_, _*_, _-_, _≤_, _<_}
+use mathlib.Core.Path.{_≡_, refl, sym, ap, _∙_}
+use mathlib.Core.List.{List, [], _∷_, _++_}
+use mathlib.Core.Bool.{Bool, true, false, cond, _&&_}
+use mathlib.Core.Logic.{_⊎_, inl, inr}
+use native.Mathlib.Omega.{arith}
+use borrow.Author.Tests.{le-leb, lt-leb, leb-false, ne-eqb}
+use lib.ListN.{length, getD, take, drop, length-append}
+use lib.Seq.{take-append-seam, drop-append-add, drop-drop}
+use lib.Dec.{leb, eqb}
+use Rattle.numbers.proofs.Cases.{never, and-true, true-or-false, cond-cases}
+use Rattle.tpg.specs.Steps.{over}
+use Rattle.tpg.specs.declared.State.{State}
+use Rattle.tpg.proofs.Laying.{over-length}
+use Rattle.frames.specs.Hex.{isDigit, isHex, unhex, hex}
+use Rattle.frames.specs.Frames.{Reply, bytesOf, longestFrame, readBytes, noFrame, framed, reply, lineOf, mostSent, longestLine, answerCall, answerLine, toldOf}
+use Rattle.frames.specs.declared.Answered.{Answered}
+use Rattle.frames.specs.declared.taking.Told.{Told}
+use Rattle.frames.proofs.Spreading.{hex-length}
+use Rattle.frames.proofs.Bounds.{framed-few, bytes-small}
+
+-- ---- a line that is too long to be read has no form
+
+unhex-length : (l : List ℕ) → isHex l ≡ true → 2 * length (unhex l) ≡ length l
+unfolding isHex unhex
+unhex-length [] e = refl
+unhex-length (a ∷ []) e = never (cc)
+unhex-length (a ∷ b ∷ l) e = omega (arith, unhex-length l (and-true (isDigit a && isDigit b) (isHex l) e .1))
+
+and-false : (t u : Bool) → u ≡ false → t && u ≡ false
+and-false true u e = e
+and-false false u e = refl
+
+too-many : (s : State) (f : List ℕ) → longestFrame < length f → framed s f ≡ noFrame s
+unfolding framed
+too-many s f h =
+    let first = getD f 0 0 in
+    rw (and-false (eqb first 1) (leb (length f) longestFrame) (lt-leb (length f) longestFrame h),
+    and-false (eqb first 2) (eqb (length f) 9) (ne-eqb (length f) 9 (λ (e : length f ≡ 9). never (omega (arith, e)))),
+    and-false (eqb first 3) (eqb (length f) 2) (ne-eqb (length f) 2 (λ (e : length f ≡ 2). never (omega (arith, e)))),
+    and-false (eqb first 4) (eqb (length f) 2) (ne-eqb (length f) 2 (λ (e : length f ≡ 2). never (omega (arith, e)))),
+    and-false (eqb first 5) (eqb (length f) 1) (ne-eqb (length f) 1 (λ (e : length f ≡ 1). never (omega (arith, e)))))
+
+-- what was read gives the reply of the whole line
+pub read-enough : (s : State) (line : List ℕ) → framed s (readBytes line) ≡ reply s line
+unfolding bytesOf framed
+read-enough s line = go (true-or-false (leb (length line) (2 * longestFrame))) (true-or-false (isHex line))
+  where
+    go : (leb (length line) (2 * longestFrame) ≡ true) ⊎ (leb (length line) (2 * longestFrame) ≡ false) → (isHex line ≡ true) ⊎ (isHex line ≡ false)
+        → framed s (readBytes line) ≡ reply s line
+    go (inl e) h = rw e
+    go (inr e) (inl h) = rw (e, h) (sym (too-many s (unhex line) (omega (arith, leb-false (length line) (2 * longestFrame) e, unhex-length line h))))
+    go (inr e) (inr h) = rw (e, h)
+
+-- ---- an output that was laid over twice
+
+over-over : (xs ys out : List ℕ) → length xs ≤ length ys → over ys (over xs out) ≡ over ys out
+unfolding over
+over-over xs ys out h =
+    let n : ℕ = length ys - length xs in
+    let e : length ys ≡ length xs + n = omega arith in
+    rw e (ap (λ (l : List ℕ). ys ++ l) (drop-append-add xs (drop (length xs) out) n ∙ drop-drop n (length xs) out))
+
+over-front : (xs out : List ℕ) → take (length xs) (over xs out) ≡ xs
+unfolding over
+over-front xs out = take-append-seam xs (drop (length xs) out)
+
+line-length : (r : Reply) → length (lineOf r) ≡ 2 + 2 * length (r .bytes) + 1
+line-length r = simp length-append (omega (arith, hex-length (r .number ∷ r .bytes)))
+
+-- ---- the two ends of the call
+
+module _ (s : State) (line out : List ℕ) where
+  pub refused : length out < longestLine → (record { number = 3; state = s; written = 0 } ≡ answerCall s line (length out)) × (out ≡ over (answerLine s line (length out)) out)
+  unfolding answerCall answerLine over
+  refused h = rw (lt-leb longestLine (length out) h) (refl, refl)
+
+  module _ (room : longestLine ≤ length out) (f : List ℕ) (read : f ≡ readBytes line) (t : Told) (sent : List ℕ)
+      (e : (t ≡ toldOf (framed s f)) × (sent ≡ over (framed s f .bytes) out)) where
+    abbrev r : Reply
+    r = reply s line
+
+    same : framed s f ≡ r
+    same = ap (framed s) read ∙ read-enough s line
+
+    told : t ≡ toldOf r
+    told = e .0 ∙ ap toldOf same
+
+    laid : sent ≡ over (r .bytes) out
+    laid = e .1 ∙ ap (λ (q : Reply). over (q .bytes) out) same
+
+    pub few : t .count ≤ mostSent
+    few = omega (arith, ap (λ (x : Told). x .count) told, framed-few s (bytesOf line) (bytes-small line 1))
+
+    pub kept : length sent ≡ length out
+    kept = ap length laid ∙ over-length (r .bytes) out (omega (arith, room, framed-few s (bytesOf line) (bytes-small line 1)))
+
+    pub answered : (a : Answered) (w : ℕ) (after : List ℕ) → a ≡ record { number = t .number; state = t .state; written = w } → w ≡ 2 + 2 * t .count + 1
+        → after ≡ over (hex (t .number ∷ take (t .count) sent) ++ 10 ∷ []) sent → (a ≡ answerCall s line (length out)) × (after ≡ over (answerLine s line (length out)) out)
+    unfolding answerCall answerLine
+    answered a w after p q u =
+        let count : w ≡ length (lineOf r) = q ∙ ap (λ (x : Told). 2 + 2 * x .count + 1) told ∙ sym (line-length r) in
+        rw (le-leb longestLine (length out) room)
+        (p ∙ (λ i. record { number = told i .number; state = told i .state; written = count i }),
+        u ∙ ap (λ (x : Told). over (hex (x .number ∷ take (x .count) sent) ++ 10 ∷ []) sent) told
+        ∙ ap (λ (l : List ℕ). over (hex (r .number ∷ take (length (r .bytes)) l) ++ 10 ∷ []) l) laid
+        ∙ ap (λ (l : List ℕ). over (hex (r .number ∷ l) ++ 10 ∷ []) (over (r .bytes) out)) (over-front (r .bytes) out)
+        ∙ over-over (r .bytes) (lineOf r) out (omega (arith, line-length r)))

@@ -1,0 +1,69 @@
+-- Which call a frame asks for: the first byte, and the number of bytes that goes with it.
+use Prim.Native.Nat.{ℕ}
+use mathlib.Core.Path.{_≡_, refl}
+use mathlib.Core.List.{List, []}
+use mathlib.Core.Bool.{Bool, true, false, _&&_}
+use lib.ListN.{length, getD, drop}
+use lib.Dec.{leb, eqb}
+use Rattle.numbers.proofs.Cases.{cond-cases}
+use Rattle.tpg.specs.Steps.{over}
+use Rattle.tpg.specs.Calls.{cycleCall}
+use Rattle.tpg.specs.declared.State.{State}
+use Rattle.frames.specs.Frames.{Reply, longestFrame, noFrame, silent, hostFrame, readingFrame, ticksFrame, freshFrame, framed, toldOf}
+use Rattle.frames.specs.declared.taking.Told.{Told}
+
+module _ (s : State) (f : List ℕ) (b : ℕ) (e : b ≡ getD f 0 0) where
+  -- one of these two at each test of the code
+  abbrev test : ℕ → Bool → Bool → Type 0
+  test n long t = (eqb b n && long) ≡ t
+
+  abbrev few : Bool
+  few = leb (length f) longestFrame
+
+  abbrev has : ℕ → Bool
+  has n = eqb (length f) n
+
+  pub to-host : test 1 few true → framed s f ≡ hostFrame s (drop 1 f)
+  unfolding framed
+  to-host h = rw (← e, h)
+
+  module _ (h : test 1 few false) where
+    pub to-reading : test 2 (has 9) true → framed s f ≡ readingFrame s f
+    unfolding framed
+    to-reading r = rw (← e, h, r)
+
+    module _ (r : test 2 (has 9) false) where
+      pub to-ticks : test 3 (has 2) true → framed s f ≡ ticksFrame s (getD f 1 0)
+      unfolding framed
+      to-ticks t = rw (← e, h, r, t)
+
+      module _ (t : test 3 (has 2) false) where
+        pub to-fresh : test 4 (has 2) true → framed s f ≡ freshFrame s (getD f 1 0)
+        unfolding framed
+        to-fresh m = rw (← e, h, r, t, m)
+
+        module _ (m : test 4 (has 2) false) where
+          pub to-cycle : test 5 (has 1) true → framed s f ≡ silent (cycleCall s)
+          unfolding framed
+          to-cycle c = rw (← e, h, r, t, m, c)
+
+          pub to-none : test 5 (has 1) false → framed s f ≡ noFrame s
+          unfolding framed
+          to-none c = rw (← e, h, r, t, m, c)
+
+-- what was told and laid down, of the reply that it is
+module _ (r q : Reply) (e : r ≡ q) (t : Told) (out after : List ℕ) where
+  pub handed-on : (t ≡ toldOf q) × (after ≡ over (q .bytes) out) → (t ≡ toldOf r) × (after ≡ over (r .bytes) out)
+  handed-on p = rw e p
+
+pub unsent : (r : Reply) (t : Told) (out : List ℕ) → r .bytes ≡ [] → t ≡ toldOf r → (t ≡ toldOf r) × (out ≡ over (r .bytes) out)
+unfolding over
+unsent r t out e p = (p, rw e)
+
+pub reading-unsent : (s : State) (f : List ℕ) → readingFrame s f .bytes ≡ []
+unfolding readingFrame
+reading-unsent s f = cond-cases (λ (r : Reply). r .bytes ≡ []) (leb (getD f 4 0) 1) _ _ (λ e. refl) (λ e. refl)
+
+pub fresh-unsent : (s : State) (b : ℕ) → freshFrame s b .bytes ≡ []
+unfolding freshFrame
+fresh-unsent s b = refl

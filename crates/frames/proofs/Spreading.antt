@@ -1,0 +1,90 @@
+-- Bytes at the start of an output turned into their digits in place, from the last one on.
+use Prim.Native.Nat.{ℕ, zero, suc, _+_, _*_, _-_, _≤_, _<_, _/_, _%_}
+use mathlib.Core.Path.{_≡_, refl, sym, ap, _∙_}
+use mathlib.Core.List.{List, [], _∷_, _++_}
+use native.Mathlib.Omega.{arith}
+use lib.ListN.{length, getD, set, take, drop, length-set, length-append, length-take, drop-of-length-le}
+use lib.Seq.{length-take-le, take-take, take-set-le, getD-take, drop-cons, set-at, append-snoc}
+use Rattle.numbers.proofs.Cases.{never}
+use Rattle.tpg.specs.Steps.{over}
+use Rattle.frames.specs.Hex.{digitOf, pair, hex}
+
+pub hex-length : (bs : List ℕ) → length (hex bs) ≡ 2 * length bs
+unfolding hex
+hex-length [] = refl
+hex-length (b ∷ bs) = omega (arith, hex-length bs)
+
+-- two places next to each other
+two : (l : List ℕ) (n a b : ℕ) → suc n < length l → drop n (set (set l n a) (suc n) b) ≡ a ∷ b ∷ drop (suc (suc n)) l
+two [] n a b h = never (omega arith)
+two (x ∷ []) n a b h = never (omega arith)
+two (x ∷ y ∷ l) zero a b h = refl
+two (x ∷ y ∷ l) (suc n) a b h = two (y ∷ l) n a b (omega arith)
+
+-- with the bytes from i on turned
+pub record Spread (out₀ out : List ℕ) (count i : ℕ) : Type 0 where
+  pub low : i ≤ count
+  pub room : 2 + 2 * count + 1 ≤ length out₀
+  pub same : length out ≡ length out₀
+  pub front : take i out ≡ take i out₀
+  pub back : drop (2 + 2 * i) out ≡ hex (drop i (take count out₀)) ++ drop (2 + 2 * count) out₀
+
+pub start : (out₀ : List ℕ) (count : ℕ) → 2 + 2 * count + 1 ≤ length out₀ → Spread out₀ out₀ count count
+unfolding hex
+start out₀ count room =
+    let none : drop count (take count out₀) ≡ [] = drop-of-length-le (take count out₀) {i = count} (omega (arith, length-take-le count out₀ (omega arith))) in
+    record { low = omega arith; room = room; same = refl; front = refl; back = rw none }
+
+-- a byte's two digits laid down
+abbrev pub put : List ℕ → ℕ → ℕ → List ℕ
+put out at byte = set (set out at (digitOf (byte / 16))) (at + 1) (digitOf (byte % 16))
+
+put-length : (out : List ℕ) (at byte : ℕ) → length (put out at byte) ≡ length out
+put-length out at byte = simp length-set
+
+put-front : (out : List ℕ) (at byte k : ℕ) → k ≤ at → take k (put out at byte) ≡ take k out
+put-front out at byte k h = take-set-le k (set out at (digitOf (byte / 16))) (at + 1) (digitOf (byte % 16)) (omega arith) ∙ take-set-le k out at (digitOf (byte / 16)) h
+
+put-back : (out : List ℕ) (at byte : ℕ) → at + 1 < length out → drop at (put out at byte) ≡ pair byte ++ drop (at + 2) out
+put-back out at byte h =
+    let one : at + 1 ≡ suc at = omega arith in
+    let more : at + 2 ≡ suc (suc at) = omega arith in
+    rw (one, more) (two out at (digitOf (byte / 16)) (digitOf (byte % 16)) (omega arith))
+
+module _ (out₀ out : List ℕ) (count : ℕ) where
+  abbrev bytes : List ℕ
+  bytes = take count out₀
+
+  abbrev rest : List ℕ
+  rest = drop (2 + 2 * count) out₀
+
+  pub step : (k : ℕ) → Spread out₀ out count (suc k) → Spread out₀ (put out (2 + 2 * k) (getD out k 0)) count k
+  unfolding hex
+  step k s =
+      let byte : getD out k 0 ≡ getD bytes k 0 =
+      sym (getD-take (suc k) out k 0 (omega arith)) ∙ ap (λ (l : List ℕ). getD l k 0) (s .front) ∙ getD-take (suc k) out₀ k 0 (omega arith)
+      ∙ sym (getD-take count out₀ k 0 (s .low)) in
+      let place : 2 + 2 * k + 2 ≡ 2 + 2 * suc k = omega arith in
+      let held : k < length bytes = omega (arith, length-take-le count out₀ (omega (arith, s .room)), s .low) in
+      record {
+        low = omega (arith, s .low);
+        room = s .room;
+        same = put-length out (2 + 2 * k) (getD out k 0) ∙ s .same;
+        front = put-front out (2 + 2 * k) (getD out k 0) k (omega arith) ∙ sym (take-take k (suc k) out (omega arith)) ∙ ap (take k) (s .front)
+            ∙ take-take k (suc k) out₀ (omega arith);
+        back = put-back out (2 + 2 * k) (getD out k 0) (omega (arith, s .same, s .room, s .low)) ∙ ap (λ (n : ℕ). pair (getD out k 0) ++ drop n out) place
+            ∙ ap (λ (l : List ℕ). pair (getD out k 0) ++ l) (s .back) ∙ ap (λ (b : ℕ). pair b ++ (hex (drop (suc k) bytes) ++ rest)) byte
+            ∙ sym (ap (λ (l : List ℕ). hex l ++ rest) (drop-cons bytes k 0 held));
+      }
+
+  pub ended : (number : ℕ) → Spread out₀ out count 0 → set (put out 0 number) (2 + 2 * count) 10 ≡ over (hex (number ∷ bytes) ++ 10 ∷ []) out₀
+  unfolding hex over
+  ended number s =
+      let line : List ℕ = hex (number ∷ bytes) in
+      let many : length line ≡ 2 + 2 * count = hex-length (number ∷ bytes) ∙ omega (arith, length-take-le count out₀ (omega (arith, s .room))) in
+      let turned : put out 0 number ≡ line ++ rest = put-back out 0 number (omega (arith, s .same, s .room)) ∙ ap (λ (l : List ℕ). pair number ++ l) (s .back) in
+      let last : rest ≡ getD out₀ (2 + 2 * count) 0 ∷ drop (suc (2 + 2 * count)) out₀ = drop-cons out₀ (2 + 2 * count) 0 (omega (arith, s .room)) in
+      let long : suc (2 + 2 * count) ≡ length (line ++ 10 ∷ []) = sym (length-append line (10 ∷ []) ∙ omega (arith, many)) in
+      ap (λ (l : List ℕ). set l (2 + 2 * count) 10) (turned ∙ ap (λ (l : List ℕ). line ++ l) last)
+      ∙ set-at line (getD out₀ (2 + 2 * count) 0) (drop (suc (2 + 2 * count)) out₀) 10 (2 + 2 * count) many
+      ∙ sym (append-snoc line 10 (drop (suc (2 + 2 * count)) out₀)) ∙ ap (λ (n : ℕ). line ++ (10 ∷ []) ++ drop n out₀) long

@@ -1,0 +1,133 @@
+// A frame taken: the call that it asks for. What is sent stands at the start of the output, as bytes.
+ghost use mathlib.Core.Path.{_≡_};
+ghost use Prim.Native.Nat.{_≤_};
+ghost use lib.ListN.{length, getD, drop};
+ghost use Rattle.tpg.specs.Answers.{number};
+ghost use Rattle.tpg.specs.Steps.{over};
+ghost use Rattle.frames.specs.Frames.{longestFrame, mostSent, noFrame, silent, hostFrame, readingFrame, ticksFrame, modelNumber, freshFrame, framed, toldOf};
+use crate::LONGEST_FRAME;
+use gauges::frame::exponent_of;
+use gauges::frame::mantissa_of;
+use tpg::State;
+use tpg::answers::Outcome;
+
+// The answer to a frame of other form.
+const NO_FRAME: u8 = 255;
+
+// The answer number of a frame, the box after it, and how many bytes it sent.
+pub(crate) struct Told {
+    pub number: u8,
+    pub state: State,
+    pub count: usize,
+}
+
+// What a call answered.
+fn told_of(o: Outcome) -> Told
+    ensures { λ r. ⌜ r ≡ record { number = number (o .answer); state = o .state; count = o .written } ⌝ }
+{
+    let answer = o.answer;
+    let state = o.state;
+    Told {
+        number: answer.number(),
+        state,
+        count: o.written,
+    }
+}
+
+// An answer that sends nothing.
+fn silent(number: u8, state: State) -> Told
+    ensures { λ r. ⌜ r ≡ record { number = number; state = state; count = 0 } ⌝ }
+{
+    Told {
+        number,
+        state,
+        count: 0,
+    }
+}
+
+fn take_host(state: State, frame: &[u8], out: &mut [u8]) -> Told
+    requires { ⌜ (1 ≤ length (now frame)) × (length (now frame) ≤ longestFrame) × (mostSent ≤ length (now out)) ⌝ }
+    ensures { λ r. ⌜ (r ≡ toldOf (hostFrame state (drop 1 (now (frame .entry))))) × (now (out .exit) ≡ over (hostFrame state (drop 1 (now (frame .entry))) .bytes) (now (out .entry))) ⌝ }
+{
+    told_of(state.host(&frame[1..], out))
+}
+
+fn take_reading(state: State, frame: &[u8]) -> Told
+    requires { ⌜ length (now frame) ≡ 9 ⌝ }
+    ensures { λ r. ⌜ r ≡ toldOf (readingFrame state (now (frame .entry))) ⌝ }
+{
+    if frame[4] <= 1 {
+        let mantissa = mantissa_of(frame[4] == 1, frame[5], frame[6], frame[7]);
+        let exponent = exponent_of(frame[8]);
+        return told_of(state.reading(frame[1], frame[2], frame[3], mantissa, exponent));
+    }
+    silent(NO_FRAME, state)
+}
+
+fn take_ticks(state: State, count: u8, out: &mut [u8]) -> Told
+    requires { ⌜ mostSent ≤ length (now out) ⌝ }
+    ensures { λ r. ⌜ (r ≡ toldOf (ticksFrame state count)) × (now (out .exit) ≡ over (ticksFrame state count .bytes) (now (out .entry))) ⌝ }
+{
+    told_of(state.ticks(count, out))
+}
+
+// The number of the model that a byte names.
+fn model_number(byte: u8) -> u32
+    ensures { λ r. ⌜ r ≡ modelNumber byte ⌝ }
+{
+    if byte == 1 {
+        return 361;
+    }
+    if byte == 2 {
+        return 362;
+    }
+    0
+}
+
+fn take_fresh(state: State, byte: u8) -> Told
+    ensures { λ r. ⌜ r ≡ toldOf (freshFrame state byte) ⌝ }
+{
+    let o = State::fresh(model_number(byte), 0);
+    let answer = o.answer;
+    let number = answer.number();
+    if number == 0 {
+        let made = o.state;
+        return silent(number, made);
+    }
+    silent(number, state)
+}
+
+// The first byte; 0, which begins no frame, where there is none.
+fn first_of(frame: &[u8]) -> u8
+    ensures { λ r. ⌜ r ≡ getD (now (frame .entry)) 0 0 ⌝ }
+{
+    if 0 < frame.len() {
+        return frame[0];
+    }
+    0
+}
+
+// The first byte says what is wanted, and how many bytes go with it.
+pub(crate) fn take(state: State, frame: &[u8], out: &mut [u8]) -> Told
+    requires { ⌜ mostSent ≤ length (now out) ⌝ }
+    ensures { λ r. ⌜ (r ≡ toldOf (framed state (now (frame .entry)))) × (now (out .exit) ≡ over (framed state (now (frame .entry)) .bytes) (now (out .entry))) ⌝ }
+{
+    let len = frame.len();
+    let first = first_of(frame);
+    if (first == 1) & (len <= LONGEST_FRAME) {
+        return take_host(state, frame, out);
+    }
+    if (first == 2) & (len == 9) {
+        return take_reading(state, frame);
+    }
+    if (first == 3) & (len == 2) {
+        return take_ticks(state, frame[1], out);
+    }
+    if (first == 4) & (len == 2) {
+        return take_fresh(state, frame[1]);
+    }
+    if (first == 5) & (len == 1) {
+        return told_of(state.power_cycle());
+    }
+    silent(NO_FRAME, state)
+}

@@ -2,7 +2,7 @@
 use Prim.Native.Nat.{ℕ, _+_, _-_, min}
 use mathlib.Core.List.{List, [], _∷_}
 use mathlib.Core.Bool.{cond}
-use lib.ListN.{length, take, drop}
+use lib.ListN.{length, drop}
 use lib.Dec.{eqb}
 
 -- what stands before the first LF

@@ -2,14 +2,14 @@
 use Prim.Native.Nat.{ℕ, _+_, _*_, _-_, _≤_, _<_}
 use mathlib.Core.Path.{_≡_, refl, sym, ap, _∙_}
 use mathlib.Core.List.{List, [], _∷_, _++_}
-use mathlib.Core.Bool.{Bool, true, false, cond, _&&_}
+use mathlib.Core.Bool.{Bool, true, false, _&&_}
 use mathlib.Core.Logic.{_⊎_, inl, inr}
 use native.Mathlib.Omega.{arith}
 use borrow.Author.Tests.{le-leb, lt-leb, leb-false, ne-eqb}
 use lib.ListN.{length, getD, take, drop, length-append}
 use lib.Seq.{take-append-seam, drop-append-add, drop-drop}
 use lib.Dec.{leb, eqb}
-use Rattle.numbers.proofs.Cases.{never, and-true, true-or-false, cond-cases}
+use Rattle.numbers.proofs.Cases.{never, and-true, true-or-false}
 use Rattle.tpg.specs.Steps.{over}
 use Rattle.tpg.specs.declared.State.{State}
 use Rattle.tpg.proofs.Laying.{over-length}
@@ -36,11 +36,13 @@ too-many : (s : State) (f : List ℕ) → longestFrame < length f → framed s f
 unfolding framed
 too-many s f h =
     let first = getD f 0 0 in
-    rw (and-false (eqb first 1) (leb (length f) longestFrame) (lt-leb (length f) longestFrame h),
-    and-false (eqb first 2) (eqb (length f) 9) (ne-eqb (length f) 9 (λ (e : length f ≡ 9). never (omega (arith, e)))),
-    and-false (eqb first 3) (eqb (length f) 2) (ne-eqb (length f) 2 (λ (e : length f ≡ 2). never (omega (arith, e)))),
-    and-false (eqb first 4) (eqb (length f) 2) (ne-eqb (length f) 2 (λ (e : length f ≡ 2). never (omega (arith, e)))),
-    and-false (eqb first 5) (eqb (length f) 1) (ne-eqb (length f) 1 (λ (e : length f ≡ 1). never (omega (arith, e)))))
+    rw (
+      and-false (eqb first 1) (leb (length f) longestFrame) (lt-leb (length f) longestFrame h),
+      and-false (eqb first 2) (eqb (length f) 9) (ne-eqb (length f) 9 (λ (e : length f ≡ 9). never (omega (arith, e)))),
+      and-false (eqb first 3) (eqb (length f) 2) (ne-eqb (length f) 2 (λ (e : length f ≡ 2). never (omega (arith, e)))),
+      and-false (eqb first 4) (eqb (length f) 2) (ne-eqb (length f) 2 (λ (e : length f ≡ 2). never (omega (arith, e)))),
+      and-false (eqb first 5) (eqb (length f) 1) (ne-eqb (length f) 1 (λ (e : length f ≡ 1). never (omega (arith, e)))),
+    )
 
 -- what was read gives the reply of the whole line
 pub read-enough : (s : State) (line : List ℕ) → framed s (readBytes line) ≡ reply s line
@@ -101,9 +103,10 @@ module _ (s : State) (line out : List ℕ) where
     unfolding answerCall answerLine
     answered a w after p q u =
         let count : w ≡ length (lineOf r) = q ∙ ap (λ (x : Told). 2 + 2 * x .count + 1) told ∙ sym (line-length r) in
-        rw (le-leb longestLine (length out) room)
-        (p ∙ (λ i. record { number = told i .number; state = told i .state; written = count i }),
-        u ∙ ap (λ (x : Told). over (hex (x .number ∷ take (x .count) sent) ++ 10 ∷ []) sent) told
-        ∙ ap (λ (l : List ℕ). over (hex (r .number ∷ take (length (r .bytes)) l) ++ 10 ∷ []) l) laid
-        ∙ ap (λ (l : List ℕ). over (hex (r .number ∷ l) ++ 10 ∷ []) (over (r .bytes) out)) (over-front (r .bytes) out)
-        ∙ over-over (r .bytes) (lineOf r) out (omega (arith, line-length r)))
+        rw (le-leb longestLine (length out) room) (
+          p ∙ (λ i. record { number = told i .number; state = told i .state; written = count i }),
+          u ∙ ap (λ (x : Told). over (hex (x .number ∷ take (x .count) sent) ++ 10 ∷ []) sent) told
+              ∙ ap (λ (l : List ℕ). over (hex (r .number ∷ take (length (r .bytes)) l) ++ 10 ∷ []) l) laid
+              ∙ ap (λ (l : List ℕ). over (hex (r .number ∷ l) ++ 10 ∷ []) (over (r .bytes) out)) (over-front (r .bytes) out)
+              ∙ over-over (r .bytes) (lineOf r) out (omega (arith, line-length r)),
+        )

@@ -1,25 +1,24 @@
 -- No output line is longer than the longest line.
-use Prim.Native.Nat.{ℕ, suc, _+_, _*_, _≤_}
-use mathlib.Core.Path.{_≡_, refl, sym, ap, _∙_}
-use mathlib.Core.List.{List, [], _∷_, _++_}
-use mathlib.Core.Bool.{Bool, true, false, cond, _&&_}
+use Prim.Native.Nat.{ℕ, _*_, _≤_}
+use mathlib.Core.List.{List, [], _∷_}
 use native.Mathlib.Omega.{arith}
 use borrow.Author.Tests.{leb-true}
 use lib.ListN.{length, getD, drop, length-append, length-drop}
-use lib.Dec.{leb, eqb}
-use Rattle.numbers.proofs.Cases.{and-true, cond-cases, true-or-false}
+use lib.Dec.{leb}
+use Rattle.numbers.proofs.Cases.{cond-cases}
 use Rattle.tpg.specs.Answers.{leastOutput}
 use Rattle.tpg.specs.States.{stateWithin}
-use Rattle.tpg.specs.Steps.{next, sent, said}
+use Rattle.tpg.specs.Steps.{next, said}
 use Rattle.tpg.specs.Calls.{ticksText}
 use Rattle.tpg.specs.declared.State.{State}
 use Rattle.tpg.proofs.Sending.{sent-length}
 use Rattle.tpg.proofs.Ticking.{ticks-length}
-use Rattle.frames.specs.Hex.{hex, isHex, unhex}
-use Rattle.frames.specs.Frames.{Reply, bytesOf, longestFrame, sending, hostFrame, readingFrame, ticksFrame, freshFrame, framed, reply, lineOf, mostSent, longestLine, answerCall}
+use Rattle.frames.specs.Hex.{isHex, unhex}
+use Rattle.frames.specs.Frames.{Reply, bytesOf, longestFrame, sending, hostFrame, ticksFrame, framed, reply, lineOf, mostSent, longestLine, answerCall}
 use Rattle.frames.specs.declared.Answered.{Answered}
 use Rattle.frames.proofs.Spreading.{hex-length}
 use Rattle.frames.proofs.Digits.{unhex-small}
+use Rattle.frames.proofs.Forms.{framed-cases, reading-unsent, fresh-unsent}
 
 pub said-length : (l : List ℕ) (s : State) → length (said s l) ≤ leastOutput * length l
 unfolding said
@@ -37,14 +36,10 @@ host-few : (s : State) (f : List ℕ) → length f ≤ longestFrame → length (
 host-few s f h = omega (arith, said-length (drop 1 f) s, length-drop 1 f)
 
 pub framed-few : (s : State) (f : List ℕ) → getD f 1 0 ≤ 255 → Few (framed s f)
-unfolding framed hostFrame readingFrame ticksFrame freshFrame
+unfolding hostFrame ticksFrame
 framed-few s f small =
-    cond-cases Few (eqb (getD f 0 0) 1 && leb (length f) longestFrame) _ _
-    (λ e. sending-few s _ (said s (drop 1 f)) (host-few s f (leb-true (length f) longestFrame (and-true (eqb (getD f 0 0) 1) (leb (length f) longestFrame) e .1))))
-    (λ n. cond-cases Few (eqb (getD f 0 0) 2 && eqb (length f) 9) _ _ (λ e. cond-cases Few (leb (getD f 4 0) 1) _ _ (λ l. omega arith) (λ m. omega arith))
-    (λ o. cond-cases Few (eqb (getD f 0 0) 3 && eqb (length f) 2) _ _ (λ e. sending-few s _ (ticksText s (getD f 1 0)) (omega (arith, ticks-length (getD f 1 0) s)))
-    (λ p. cond-cases Few (eqb (getD f 0 0) 4 && eqb (length f) 2) _ _ (λ e. omega arith)
-    (λ q. cond-cases Few (eqb (getD f 0 0) 5 && eqb (length f) 1) _ _ (λ e. omega arith) (λ r. omega arith)))))
+    framed-cases Few s f (λ h. sending-few s _ (said s (drop 1 f)) (host-few s f h)) (rw (reading-unsent s f) (omega arith))
+    (sending-few s _ (ticksText s (getD f 1 0)) (omega (arith, ticks-length (getD f 1 0) s))) (rw (fresh-unsent s (getD f 1 0)) (omega arith)) (omega arith) (omega arith)
 
 pub bytes-small : (line : List ℕ) (i : ℕ) → getD (bytesOf line) i 0 ≤ 255
 unfolding bytesOf

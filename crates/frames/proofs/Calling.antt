@@ -1,8 +1,8 @@
 -- A frame's call, with room for all that it sends.
-use Prim.Native.Nat.{ℕ, suc, _+_, _*_, _-_, _≤_}
+use Prim.Native.Nat.{ℕ, suc, _*_, _-_, _≤_}
 use mathlib.Core.Path.{_≡_, refl, sym, ap, _∙_}
-use mathlib.Core.List.{List, [], _∷_, _++_}
-use mathlib.Core.Bool.{Bool, true, false, cond, _&&_}
+use mathlib.Core.List.{List, [], _∷_}
+use mathlib.Core.Bool.{true, false}
 use native.Mathlib.Omega.{arith}
 use borrow.Author.Tests.{le-leb, eqb-true, eq-eqb, ne-eqb}
 use lib.ListN.{length, getD, take, drop, length-drop}

@@ -1,15 +1,15 @@
 -- Hexadecimal read back: each byte has its own two digits, and they stand for no other.
 use Prim.Native.Nat.{ℕ, zero, suc, _+_, _*_, _/_, _%_, _≤_, _<_}
-use mathlib.Core.Path.{_≡_, refl, sym, ap, _∙_}
-use mathlib.Core.List.{List, [], _∷_, _++_}
-use mathlib.Core.Bool.{Bool, true, false, cond, _&&_}
+use mathlib.Core.Path.{_≡_, refl}
+use mathlib.Core.List.{List, [], _∷_}
+use mathlib.Core.Bool.{true, cond, _&&_}
 use native.Mathlib.Omega.{arith}
 use borrow.Author.Tests.{ltb-true, lt-ltb, eqb-true}
-use lib.ListN.{length, getD}
-use lib.Dec.{ltb, eqb}
+use lib.ListN.{getD}
+use lib.Dec.{eqb}
 use Rattle.text.proofs.Tables.{everywhere}
 use Rattle.numbers.proofs.Cases.{never, and-true}
-use Rattle.frames.specs.Hex.{digitOf, pair, hex, valueOf, isDigit, isHex, unhex}
+use Rattle.frames.specs.Hex.{digitOf, hex, valueOf, isDigit, isHex, unhex}
 
 -- both ways for a digit, each by one computed test
 pub value-back : (n : ℕ) → n < 16 → valueOf (digitOf n) ≡ n

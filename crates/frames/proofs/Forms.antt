@@ -1,11 +1,12 @@
 -- Which call a frame asks for: the first byte, and the number of bytes that goes with it.
-use Prim.Native.Nat.{ℕ}
+use Prim.Native.Nat.{ℕ, _≤_}
 use mathlib.Core.Path.{_≡_, refl}
 use mathlib.Core.List.{List, []}
 use mathlib.Core.Bool.{Bool, true, false, _&&_}
+use borrow.Author.Tests.{leb-true}
 use lib.ListN.{length, getD, drop}
 use lib.Dec.{leb, eqb}
-use Rattle.numbers.proofs.Cases.{cond-cases}
+use Rattle.numbers.proofs.Cases.{and-true, cond-cases}
 use Rattle.tpg.specs.Steps.{over}
 use Rattle.tpg.specs.Calls.{cycleCall}
 use Rattle.tpg.specs.declared.State.{State}
@@ -50,6 +51,19 @@ module _ (s : State) (f : List ℕ) (b : ℕ) (e : b ≡ getD f 0 0) where
           pub to-none : test 5 (has 1) false → framed s f ≡ noFrame s
           unfolding framed
           to-none c = rw (← e, h, r, t, m, c)
+
+-- what holds of each form's reply holds of a frame's
+module _ (P : Reply → Type 0) (s : State) (f : List ℕ) where
+  pub framed-cases : (length f ≤ longestFrame → P (hostFrame s (drop 1 f))) → P (readingFrame s f) → P (ticksFrame s (getD f 1 0)) → P (freshFrame s (getD f 1 0))
+      → P (silent (cycleCall s)) → P (noFrame s) → P (framed s f)
+  unfolding framed
+  framed-cases host reading ticks fresh cycle none =
+      cond-cases P (eqb (getD f 0 0) 1 && leb (length f) longestFrame) _ _
+      (λ e. host (leb-true (length f) longestFrame (and-true (eqb (getD f 0 0) 1) (leb (length f) longestFrame) e .1)))
+      (λ h. cond-cases P (eqb (getD f 0 0) 2 && eqb (length f) 9) _ _ (λ e. reading)
+      (λ r. cond-cases P (eqb (getD f 0 0) 3 && eqb (length f) 2) _ _ (λ e. ticks)
+      (λ t. cond-cases P (eqb (getD f 0 0) 4 && eqb (length f) 2) _ _ (λ e. fresh)
+      (λ m. cond-cases P (eqb (getD f 0 0) 5 && eqb (length f) 1) _ _ (λ e. cycle) (λ c. none)))))
 
 -- what was told and laid down, of the reply that it is
 module _ (r q : Reply) (e : r ≡ q) (t : Told) (out after : List ℕ) where

@@ -5,3 +5,4 @@ pub mod Bounds
 pub mod Digits
 pub mod Forms
 pub mod Answering
+pub mod Kept

@@ -1,9 +1,9 @@
 -- Bytes at the start of an output turned into their digits in place, from the last one on.
-use Prim.Native.Nat.{ℕ, zero, suc, _+_, _*_, _-_, _≤_, _<_, _/_, _%_}
+use Prim.Native.Nat.{ℕ, zero, suc, _+_, _*_, _≤_, _<_, _/_, _%_}
 use mathlib.Core.Path.{_≡_, refl, sym, ap, _∙_}
 use mathlib.Core.List.{List, [], _∷_, _++_}
 use native.Mathlib.Omega.{arith}
-use lib.ListN.{length, getD, set, take, drop, length-set, length-append, length-take, drop-of-length-le}
+use lib.ListN.{length, getD, set, take, drop, length-set, length-append, drop-of-length-le}
 use lib.Seq.{length-take-le, take-take, take-set-le, getD-take, drop-cons, set-at, append-snoc}
 use Rattle.numbers.proofs.Cases.{never}
 use Rattle.tpg.specs.Steps.{over}

@@ -3,11 +3,12 @@ ghost use mathlib.Core.Path.{_≡_};
 ghost use Prim.Native.Nat.{_≤_};
 ghost use lib.ListN.{length, take};
 ghost use Rattle.frames.specs.Frames.{longestFrame, readBytes};
+use crate::LONGEST_FRAME;
 use crate::hex::NO_DIGIT;
 use crate::hex::value_of;
 
 // two for each byte of the longest frame
-const MOST_DIGITS: usize = 122;
+const MOST_DIGITS: usize = 2 * LONGEST_FRAME;
 
 // The bytes that a line stands for, put at the start of `bytes`; none where it is no hexadecimal, or too long.
 pub(crate) fn read(line: &[u8], bytes: &mut [u8]) -> usize

@@ -10,7 +10,7 @@ mod hex;
 mod taking;
 
 // The longest output line: 255 ticks with a line of the stream each.
-pub const LONGEST_LINE: usize = 32643;
+pub const LONGEST_LINE: usize = 2 * (1 + 255 * State::LEAST_OUTPUT) + 1;
 
 // The longest frame: its first byte and 60 host bytes.
 const LONGEST_FRAME: usize = 61;

@@ -4,7 +4,7 @@ ghost use Prim.Native.Nat.{_≤_};
 ghost use lib.ListN.{length, getD, drop};
 ghost use Rattle.tpg.specs.Answers.{number};
 ghost use Rattle.tpg.specs.Steps.{over};
-ghost use Rattle.frames.specs.Frames.{longestFrame, mostSent, noFrame, silent, hostFrame, readingFrame, ticksFrame, modelNumber, freshFrame, framed, toldOf};
+ghost use Rattle.frames.specs.Frames.{longestFrame, mostSent, noFrame, hostFrame, readingFrame, ticksFrame, modelNumber, freshFrame, framed, toldOf};
 use crate::LONGEST_FRAME;
 use gauges::frame::exponent_of;
 use gauges::frame::mantissa_of;
@@ -45,6 +45,13 @@ fn silent(number: u8, state: State) -> Told
     }
 }
 
+// The answer to a frame of other form: nothing changes.
+fn no_frame(state: State) -> Told
+    ensures { λ r. ⌜ r ≡ toldOf (noFrame state) ⌝ }
+{
+    silent(NO_FRAME, state)
+}
+
 fn take_host(state: State, frame: &[u8], out: &mut [u8]) -> Told
     requires { ⌜ (1 ≤ length (now frame)) × (length (now frame) ≤ longestFrame) × (mostSent ≤ length (now out)) ⌝ }
     ensures { λ r. ⌜ (r ≡ toldOf (hostFrame state (drop 1 (now (frame .entry))))) × (now (out .exit) ≡ over (hostFrame state (drop 1 (now (frame .entry))) .bytes) (now (out .entry))) ⌝ }
@@ -61,7 +68,7 @@ fn take_reading(state: State, frame: &[u8]) -> Told
         let exponent = exponent_of(frame[8]);
         return told_of(state.reading(frame[1], frame[2], frame[3], mantissa, exponent));
     }
-    silent(NO_FRAME, state)
+    no_frame(state)
 }
 
 fn take_ticks(state: State, count: u8, out: &mut [u8]) -> Told
@@ -129,5 +136,5 @@ pub(crate) fn take(state: State, frame: &[u8], out: &mut [u8]) -> Told
     if (first == 5) & (len == 1) {
         return told_of(state.power_cycle());
     }
-    silent(NO_FRAME, state)
+    no_frame(state)
 }

@@ -1,12 +1,12 @@
 -- The next line lies within the block, and what is written within the output.
 use Prim.Native.Nat.{_-_, _+_, _≤_}
-use mathlib.Core.Path.{_≡_, refl, sym, _∙_}
+use mathlib.Core.Path.{refl, sym, _∙_}
 use native.Mathlib.Omega.{arith}
 use borrow.Author.Needs.{needs}
 use borrow.Rule.Slice.PartMut.{same-len-mid}
 use lib.ListN.{length}
 use lib.Seq.{length-take-le}
-use Rattle.bench.proofs.Keeping.{Answering, to-inside, written-inside}
+use Rattle.bench.proofs.Blocks.{Answering, to-inside, written-inside}
 use Rattle.bench.proofs.answer_lines.Statement.{statement}
 use Rattle.bench.proofs.answer_lines.Tie as tie
 

@@ -2,7 +2,7 @@
 use Prim.Native.Nat.{_-_}
 use native.Mathlib.Omega.{arith}
 use denote.Ref.{now}
-use Rattle.bench.proofs.Keeping.{Kept, start, step}
+use Rattle.bench.proofs.Blocks.{Kept, start, step}
 use Rattle.bench.proofs.keep.Statement.{statement}
 use Rattle.bench.proofs.keep.Tie as tie
 

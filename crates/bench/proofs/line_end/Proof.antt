@@ -5,7 +5,7 @@ use native.Mathlib.Omega.{arith}
 use denote.Ref.{now}
 use lib.ListN.{length}
 use Rattle.bench.specs.Lines.{lineEnd}
-use Rattle.bench.proofs.Keeping.{end-here, end-later, end-last}
+use Rattle.bench.proofs.Blocks.{end-here, end-later, end-last}
 use Rattle.bench.proofs.line_end.Statement.{statement}
 use Rattle.bench.proofs.line_end.Tie as tie
 

@@ -6,7 +6,7 @@ use borrow.Author.Needs.{needs}
 use lib.ListN.{length}
 use lib.Seq.{length-take-le}
 use Rattle.bench.specs.Lines.{mostKept, blockSize}
-use Rattle.bench.proofs.Keeping.{written-few}
+use Rattle.bench.proofs.Blocks.{written-few}
 use Rattle.bench.proofs.main.Statement.{statement}
 use Rattle.bench.proofs.main.Tie as tie
 

@@ -1,11 +1,9 @@
 -- What was read, taken and turned, one after the other.
-use Prim.Native.Nat.{ℕ}
-use mathlib.Core.Path.{_≡_, sym, _∙_, ap}
-use mathlib.Core.List.{List}
+use mathlib.Core.Path.{sym, _∙_}
 use native.Mathlib.Omega.{arith}
 use borrow.Author.Needs.{needs}
 use denote.Ref.{now}
-use lib.ListN.{length, take}
+use lib.ListN.{take}
 use lib.Seq.{length-take-le}
 use Rattle.frames.proofs.Answering.{refused, few, kept, answered}
 use Rattle.frames.proofs.answer.Statement.{statement}

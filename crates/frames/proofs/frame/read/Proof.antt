@@ -1,12 +1,11 @@
 -- The pairs read so far are the first bytes; the rest of the line is read from here.
-use Prim.Native.Nat.{ℕ, _-_, _*_, _+_, _<_, _/_}
+use Prim.Native.Nat.{_-_, _/_}
 use mathlib.Core.Path.{_≡_, sym, _∙_}
-use mathlib.Core.Bool.{true, false, _&&_}
 use native.Mathlib.Omega.{arith}
 use borrow.Author.Needs.{needs}
 use borrow.Author.Tests.{ltb-true}
 use denote.Ref.{now}
-use lib.ListN.{length, getD, take}
+use lib.ListN.{length}
 use lib.Dec.{ltb}
 use Rattle.numbers.proofs.Cases.{and-true}
 use Rattle.frames.proofs.Reading.{Read, start, step, spoilt, ended, not-read, too-long, odd-not-hex}

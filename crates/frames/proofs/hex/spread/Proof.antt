@@ -1,9 +1,9 @@
 -- From the last byte on each is turned into its digits; the bytes before it still stand.
 use Prim.Native.Nat.{ℕ, suc, _-_, _*_, _+_}
-use mathlib.Core.Path.{_≡_, refl, _∙_, subst}
+use mathlib.Core.Path.{_≡_, refl, subst}
 use native.Mathlib.Omega.{arith}
 use denote.Ref.{now}
-use lib.ListN.{length, length-set}
+use lib.ListN.{length-set}
 use Rattle.frames.specs.Hex.{digitOf}
 use Rattle.frames.proofs.Spreading.{Spread, start, step, ended}
 use Rattle.frames.proofs.hex.spread.Statement.{statement}

@@ -96,8 +96,8 @@ returns-5 c =
     handed-on _ _ (to-cycle (a .state) (now (a .frame)) _ (b .first-of .ensures) (i .before .before .before .before .if1 .left) (i .before .before .before .if2 .left) (i .before .before .if3 .left) (i .before .if4 .left) (i .if5 .taken)) _ _ _
     (unsent _ _ (now (a .out)) refl (c .told-of .ensures ∙ ap toldCall (c .before .power-cycle .ensures) ∙ cycle-told (a .state)))
 
-silent-requires : tie.Need-silent-requires
-silent-requires c κs = search needs
+no-frame-requires : tie.Need-no-frame-requires
+no-frame-requires c κs = search needs
 
 returns-6 : tie.Need-returns-6
 returns-6 c =
@@ -105,7 +105,7 @@ returns-6 c =
     let b = i .before .before .before .before .before in
     let a = b .before .before .before .args in
     handed-on _ _ (to-none (a .state) (now (a .frame)) _ (b .first-of .ensures) (i .before .before .before .before .if1 .left) (i .before .before .before .if2 .left) (i .before .before .if3 .left) (i .before .if4 .left) (i .if5 .left)) _ _ _
-    (unsent _ _ (now (a .out)) refl (c .silent .ensures))
+    (unsent _ _ (now (a .out)) refl (c .no-frame .ensures))
 
 pub take-spec : {M : Type 1} → statement M
 take-spec =
@@ -127,5 +127,5 @@ take-spec =
     power-cycle-requires
     told-of-requires
     returns-5
-    silent-requires
+    no-frame-requires
     returns-6)

@@ -60,14 +60,14 @@ returns c =
     c .told-of .ensures ∙ ap toldCall (c .before .reading .ensures)
     ∙ reading-told (a .state) (now (a .frame)) _ _ (k .if1 .taken) (toZ-ofZ {w = w32} (record { sfits = m .ok }) ∙ m .ensures) (toZ-ofZ {w = w32} (record { sfits = e .ok }) ∙ e .ensures)
 
-silent-requires : tie.Need-silent-requires
-silent-requires c κs = search needs
+no-frame-requires : tie.Need-no-frame-requires
+no-frame-requires c κs = search needs
 
 returns-2 : tie.Need-returns-2
 unfolding readingFrame
 returns-2 c =
     let f = now (c .before .before .before .before .args .frame) in
-    rw (lt-leb (getD f 4 0) 1 (c .before .if1 .left), c .silent .ensures)
+    rw (lt-leb (getD f 4 0) 1 (c .before .if1 .left), c .no-frame .ensures)
 
 pub take-reading-spec : {M : Type 1} → statement M
 take-reading-spec =
@@ -87,5 +87,5 @@ take-reading-spec =
     reading-requires
     told-of-requires
     returns
-    silent-requires
+    no-frame-requires
     returns-2)

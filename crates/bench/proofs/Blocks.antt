@@ -1,7 +1,7 @@
--- Lines found in a block, and the unfinished one moved to its start.
-use Prim.Native.Nat.{ℕ, suc, _+_, _-_, _≤_, _<_, min}
+-- Blocks of input: lines found in one, the unfinished line moved to its start, and what is written for a line.
+use Prim.Native.Nat.{ℕ, _+_, _-_, _≤_, _<_}
 use mathlib.Core.Path.{_≡_, refl, sym, ap, _∙_}
-use mathlib.Core.List.{List, [], _∷_, _++_}
+use mathlib.Core.List.{List, [], _∷_}
 use native.Mathlib.Omega.{arith}
 use native.Mathlib.Numerals.{add-one}
 use borrow.Author.Tests.{eq-eqb, ne-eqb}
@@ -13,7 +13,7 @@ use Rattle.tpg.specs.declared.State.{State}
 use Rattle.frames.specs.Frames.{answerCall}
 use Rattle.frames.specs.declared.Answered.{Answered}
 use Rattle.frames.proofs.Bounds.{written-fits}
-use Rattle.bench.specs.Lines.{untilEnd, lineEnd, mostKept, keptCount, blockSize}
+use Rattle.bench.specs.Lines.{untilEnd, lineEnd, mostKept, blockSize}
 
 -- ---- the end of a line
 

@@ -1,6 +1,6 @@
 -- Texts put together, laid into an output, and what a text says that was filled from empty.
 use Prim.Native.Nat.{ℕ, zero, suc, _+_, _≤_, _<_}
-use mathlib.Core.Path.{_≡_, refl, ap}
+use mathlib.Core.Path.{_≡_, refl, sym, ap}
 use mathlib.Core.List.{List, [], _∷_, _++_, append-assoc, append-nil}
 use mathlib.Core.Bool.{Bool, true, false, cond, _&&_}
 use native.Mathlib.Omega.{arith}
@@ -66,6 +66,21 @@ dig-last (suc j) k n = rw suc-add (dig-last j k n)
 -- the byte at i, and then those behind it
 pub puts-next : (t : Text) (d : List ℕ) (i : ℕ) → i < length d → puts (put t (getD d i 0)) (drop (i + 1) d) ≡ puts t (drop i d)
 puts-next t d i h = rw (add-one i, drop-cons d i 0 h)
+
+-- past the last byte nothing is left to put
+pub puts-done : (t : Text) (d : List ℕ) (i : ℕ) → length d ≤ i → puts t (drop i d) ≡ t
+puts-done t d i h = ap (puts t) (drop-of-length-le d {i = i} h)
+
+-- the bytes of a text whose length is set only once they are all there
+abbrev pub reaching : Text → ℕ → Text
+reaching t n = record { bytes = t .bytes; len = n }
+
+-- the byte at i, written where the length has not come to yet
+pub filled-next : (t : Text) (d : List ℕ) (at i : ℕ) → i < length d → at + length d ≤ 64 → puts (reaching (more (reaching t (at + i)) (getD d i 0)) (at + (i + 1))) (drop (i + 1) d) ≡ puts (reaching t (at + i)) (drop i d)
+filled-next t d at i h fits =
+    let b = getD d i 0 in
+    let e : at + (i + 1) ≡ at + i + 1 = omega arith in
+    rw (e, sym (put-more (reaching t (at + i)) b (omega arith))) (puts-next (reaching t (at + i)) d i h)
 
 -- ---- a text that was filled from empty says just what was put, up to 64 bytes
 

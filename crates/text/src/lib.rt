@@ -44,14 +44,39 @@ impl Text {
     pub fn append(self, s: &[u8]) -> Text
         ensures { λ r. ⌜ r ≡ puts self (now (s .entry)) ⌝ }
     {
+        let at = self.len;
+        if at <= Text::PLACES {
+            if s.len() <= Text::PLACES - at {
+                return self.filled(s);
+            }
+        }
+        self.cut(s)
+    }
+
+    // All of s, where there is a place for each byte: no test on the way.
+    fn filled(self, s: &[u8]) -> Text
+        requires { ⌜ self .len + length (now s) ≤ 64 ⌝ }
+        ensures { λ r. ⌜ r ≡ puts self (now (s .entry)) ⌝ }
+    {
+        let at = self.len;
         let mut t = self;
         let mut i: usize = 0;
         while i < s.len() {
-            let at = t.len;
-            if at < Text::PLACES {
-                t.bytes[at] = s[i];
-                t.len = at + 1;
-            }
+            t.bytes[at + i] = s[i];
+            i += 1;
+        }
+        t.len = at + s.len();
+        t
+    }
+
+    // As much of s as there are places for.
+    fn cut(self, s: &[u8]) -> Text
+        ensures { λ r. ⌜ r ≡ puts self (now (s .entry)) ⌝ }
+    {
+        let mut t = self;
+        let mut i: usize = 0;
+        while i < s.len() {
+            t = t.put(s[i]);
             i += 1;
         }
         t

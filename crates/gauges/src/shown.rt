@@ -1,13 +1,12 @@
 // What is shown of a reading in the unit chosen: its text, and the switching by it.
 ghost use mathlib.Core.Path.{_≡_};
 ghost use Rattle.text.specs.Text.{puts};
-ghost use Rattle.text.specs.Digits.{wholeText};
 ghost use Rattle.gauges.specs.Shown.{inHpa, shownOf, shownText, switched};
 use crate::reading::Reading;
 use crate::units::from_hpa;
 use numbers::threshold::Threshold;
 use numbers::value::Value;
-use numerals::writing::write_value;
+use numerals::writing::value_bytes;
 use text::Text;
 
 // A reading as it is shown: its status, and its value in the unit chosen.
@@ -57,19 +56,29 @@ impl Shown {
     }
 }
 
-// The status as a whole number; one digit is put as it is, without a search for leading zeros.
-fn write_status(t: Text, status: u8) -> Text
-    ensures { λ r. ⌜ r ≡ puts t (wholeText status) ⌝ }
-{
-    if status < 10 {
-        return t.put(b'0' + status);
-    }
-    t.whole(status as u32)
-}
-
-// The text with a shown reading put behind it.
+// The text with a shown reading put behind it; a status of one digit goes with the value, without a search for leading zeros.
 pub fn write_shown(t: Text, s: Shown) -> Text
     ensures { λ r. ⌜ r ≡ puts t (shownText s) ⌝ }
 {
-    write_value(write_status(t, s.status).put(b','), s.value)
+    let b = value_bytes(s.value);
+    if s.status < 10 {
+        return t.append(
+            &[
+                b'0' + s.status,
+                b',',
+                b[0],
+                b[1],
+                b[2],
+                b[3],
+                b[4],
+                b[5],
+                b[6],
+                b[7],
+                b[8],
+                b[9],
+                b[10],
+            ],
+        );
+    }
+    t.whole(s.status as u32).put(b',').append(&b)
 }

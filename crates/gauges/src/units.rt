@@ -3,31 +3,34 @@ ghost use mathlib.Core.Path.{_≡_};
 ghost use Rattle.gauges.specs.Units.{fromHpa};
 use numbers::value::Ratio;
 
-// mbar, Torr, Pa, micron, hPa
-const FROM_HPA: [Ratio; 5] = [
-    Ratio { over: 1, under: 1 },
-    Ratio {
-        over: 3040,
-        under: 4053,
-    },
-    Ratio {
-        over: 100,
-        under: 1,
-    },
-    Ratio {
-        over: 3040000,
-        under: 4053,
-    },
-    Ratio { over: 1, under: 1 },
-];
+// The units that are not hPa by another name.
+const TORR: u32 = 1;
 
-// The factor from hPa to a unit; a number that is no unit leaves hPa.
+const PASCAL: u32 = 2;
+
+const MICRON: u32 = 3;
+
+// The factor from hPa to a unit; mbar is hPa, and a number that is no unit leaves hPa.
 pub fn from_hpa(unit: u32) -> Ratio
     ensures { λ r. ⌜ r ≡ fromHpa unit ⌝ }
 {
-    let u = unit as usize;
-    if u < 5 {
-        return FROM_HPA[u];
+    if unit == TORR {
+        return Ratio {
+            over: 3040,
+            under: 4053,
+        };
+    }
+    if unit == PASCAL {
+        return Ratio {
+            over: 100,
+            under: 1,
+        };
+    }
+    if unit == MICRON {
+        return Ratio {
+            over: 3040000,
+            under: 4053,
+        };
     }
     Ratio { over: 1, under: 1 }
 }

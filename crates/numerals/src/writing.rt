@@ -42,10 +42,24 @@ pub fn write_threshold(t: Text, n: Threshold) -> Text
     scientific(t, n.mantissa, n.exponent)
 }
 
-// The text with a shown value put behind it, its sign first.
-pub fn write_value(t: Text, v: Value) -> Text
-    ensures { λ r. ⌜ r ≡ puts t (valueText v) ⌝ }
+// The bytes of a shown value, its sign first.
+pub fn value_bytes(v: Value) -> [u8; 11]
+    ensures { λ r. ⌜ r ≡ valueText v ⌝ }
 {
-    let m = v.mantissa;
-    scientific(t.put(sign_byte(m)), magnitude(m), v.exponent)
+    let e = v.exponent;
+    let m = magnitude(v.mantissa);
+    let x = magnitude(e);
+    [
+        sign_byte(v.mantissa),
+        digit_at(m, 4),
+        b'.',
+        digit_at(m, 3),
+        digit_at(m, 2),
+        digit_at(m, 1),
+        digit_at(m, 0),
+        b'E',
+        sign_byte(e),
+        digit_at(x, 1),
+        digit_at(x, 0),
+    ]
 }

@@ -55,7 +55,7 @@ fn write_setting(t: Text, model: Model, s: Settings, x: Setting) -> Text
 pub fn end_line(t: Text) -> Text
     ensures { λ r. ⌜ r ≡ puts t lineEnd ⌝ }
 {
-    t.put(13).put(10)
+    t.append(&[13, 10])
 }
 
 // What the box sends when it is asked for a setting.

@@ -42,8 +42,11 @@ pub fn write_threshold(t: Text, n: Threshold) -> Text
     scientific(t, n.mantissa, n.exponent)
 }
 
+// A shown value as it is sent: sign, d.ddddE, sign, two digits.
+pub type ValueBytes = [u8; 11];
+
 // The bytes of a shown value, its sign first.
-pub fn value_bytes(v: Value) -> [u8; 11]
+pub fn value_bytes(v: Value) -> ValueBytes
     ensures { λ r. ⌜ r ≡ valueText v ⌝ }
 {
     let e = v.exponent;

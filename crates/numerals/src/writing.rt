@@ -15,45 +15,11 @@ fn sign_byte(z: i32) -> u8
 }
 
 // d.ddddE, sign, two digits.
-fn scientific(t: Text, m: u32, e: i32) -> Text
-    ensures { λ r. ⌜ r ≡ puts t (scientific m e) ⌝ }
+fn scientific(m: u32, e: i32) -> [u8; 10]
+    ensures { λ r. ⌜ r ≡ scientific m e ⌝ }
 {
-    let x = magnitude(e);
-    t.append(
-        &[
-            digit_at(m, 4),
-            b'.',
-            digit_at(m, 3),
-            digit_at(m, 2),
-            digit_at(m, 1),
-            digit_at(m, 0),
-            b'E',
-            sign_byte(e),
-            digit_at(x, 1),
-            digit_at(x, 0),
-        ],
-    )
-}
-
-// The text with the threshold put behind it.
-pub fn write_threshold(t: Text, n: Threshold) -> Text
-    ensures { λ r. ⌜ r ≡ puts t (thresholdText n) ⌝ }
-{
-    scientific(t, n.mantissa, n.exponent)
-}
-
-// A shown value as it is sent: sign, d.ddddE, sign, two digits.
-pub type ValueBytes = [u8; 11];
-
-// The bytes of a shown value, its sign first.
-pub fn value_bytes(v: Value) -> ValueBytes
-    ensures { λ r. ⌜ r ≡ valueText v ⌝ }
-{
-    let e = v.exponent;
-    let m = magnitude(v.mantissa);
     let x = magnitude(e);
     [
-        sign_byte(v.mantissa),
         digit_at(m, 4),
         b'.',
         digit_at(m, 3),
@@ -64,5 +30,36 @@ pub fn value_bytes(v: Value) -> ValueBytes
         sign_byte(e),
         digit_at(x, 1),
         digit_at(x, 0),
+    ]
+}
+
+// The text with the threshold put behind it.
+pub fn write_threshold(t: Text, n: Threshold) -> Text
+    ensures { λ r. ⌜ r ≡ puts t (thresholdText n) ⌝ }
+{
+    let b = scientific(n.mantissa, n.exponent);
+    t.append(&b)
+}
+
+// A shown value as it is sent: its sign first.
+pub type ValueBytes = [u8; 11];
+
+pub fn value_bytes(v: Value) -> ValueBytes
+    ensures { λ r. ⌜ r ≡ valueText v ⌝ }
+{
+    let m = v.mantissa;
+    let b = scientific(magnitude(m), v.exponent);
+    [
+        sign_byte(m),
+        b[0],
+        b[1],
+        b[2],
+        b[3],
+        b[4],
+        b[5],
+        b[6],
+        b[7],
+        b[8],
+        b[9],
     ]
 }

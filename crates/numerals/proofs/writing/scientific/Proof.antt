@@ -36,30 +36,23 @@ digit-at-requires-6 c κs = search needs
 digit-at-requires-7 : tie.Need-digit-at-requires-7
 digit-at-requires-7 c κs = search needs
 
-slice-aggregate-append : tie.Need-slice-aggregate-append
-slice-aggregate-append c = search needs
-
-append-requires : tie.Need-append-requires
-append-requires c κs = search needs
-
 returns : tie.Need-returns
 unfolding scientific
 returns c =
-    let a = c .before .before .before .before .before .before .before .before .before .before .before .args in
-    let f = c .before .before .before .before .before .before .before .before .before .before .before .fits .e in
-    let m = c .before .before .before .before .before .before .before .before .before .before .magnitude .ensures ∙ ap natAbs (toZ-ofZ f) in
-    let s = c .before .before .before .before .sign-byte .ensures ∙ ap signByte (toZ-ofZ f) in
+    let a = c .before .before .before .before .before .before .before .before .before .args in
+    let f = c .before .before .before .before .before .before .before .before .before .fits .e in
+    let m = c .before .before .before .before .before .before .before .before .magnitude .ensures ∙ ap natAbs (toZ-ofZ f) in
+    let s = c .before .before .sign-byte .ensures ∙ ap signByte (toZ-ofZ f) in
     rw (
-      c .append .ensures,
-      c .before .before .digit-at7 .ensures,
-      c .before .before .before .digit-at6 .ensures,
+      c .digit-at7 .ensures,
+      c .before .digit-at6 .ensures,
       m,
       s,
-      c .before .before .before .before .before .digit-at5 .ensures,
-      c .before .before .before .before .before .before .digit-at4 .ensures,
-      c .before .before .before .before .before .before .before .digit-at3 .ensures,
-      c .before .before .before .before .before .before .before .before .digit-at2 .ensures,
-      c .before .before .before .before .before .before .before .before .before .digit-at .ensures,
+      c .before .before .before .digit-at5 .ensures,
+      c .before .before .before .before .digit-at4 .ensures,
+      c .before .before .before .before .before .digit-at3 .ensures,
+      c .before .before .before .before .before .before .digit-at2 .ensures,
+      c .before .before .before .before .before .before .before .digit-at .ensures,
       div-one (a .m / 10000),
     )
 
@@ -76,6 +69,4 @@ scientific-spec =
     sign-byte-requires
     digit-at-requires-6
     digit-at-requires-7
-    slice-aggregate-append
-    append-requires
     returns)

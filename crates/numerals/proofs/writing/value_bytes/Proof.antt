@@ -1,71 +1,64 @@
--- `writing::value_bytes`: the bytes of the array are those of the text; its first digit is the last one of m / 10000 (`div-one`).
-use Prim.Native.Nat.{_/_}
+-- `writing::value_bytes`: the sign before the bytes of the magnitude.
 use mathlib.Core.Path.{ap, _∙_}
-use native.Mathlib.Nat.{div-one}
 use lib.IntN.{natAbs}
 use mir.Syntax.{w32}
 use mir.Val.{SFits}
 use mir.Facts.{toZ-ofZ}
-use Rattle.numerals.specs.Writing.{scientific, signByte}
 use borrow.Author.Needs.{needs}
+use Rattle.numerals.specs.Writing.{scientific, signByte}
 use Rattle.numerals.proofs.writing.value_bytes.Statement.{statement}
 use Rattle.numerals.proofs.writing.value_bytes.Tie as tie
 
 magnitude-requires : tie.Need-magnitude-requires
 magnitude-requires c κs = search needs
 
-magnitude-requires-2 : tie.Need-magnitude-requires-2
-magnitude-requires-2 c κs = search needs
+scientific-requires : tie.Need-scientific-requires
+scientific-requires c κs = search needs
 
 sign-byte-requires : tie.Need-sign-byte-requires
 sign-byte-requires c κs = search needs
 
-digit-at-requires : tie.Need-digit-at-requires
-digit-at-requires c κs = search needs
+array-read-t9 : tie.Need-array-read-t9
+array-read-t9 c = search needs
 
-digit-at-requires-2 : tie.Need-digit-at-requires-2
-digit-at-requires-2 c κs = search needs
+array-read-t12 : tie.Need-array-read-t12
+array-read-t12 c = search needs
 
-digit-at-requires-3 : tie.Need-digit-at-requires-3
-digit-at-requires-3 c κs = search needs
+array-read-t15 : tie.Need-array-read-t15
+array-read-t15 c = search needs
 
-digit-at-requires-4 : tie.Need-digit-at-requires-4
-digit-at-requires-4 c κs = search needs
+array-read-t18 : tie.Need-array-read-t18
+array-read-t18 c = search needs
 
-digit-at-requires-5 : tie.Need-digit-at-requires-5
-digit-at-requires-5 c κs = search needs
+array-read-t21 : tie.Need-array-read-t21
+array-read-t21 c = search needs
 
-sign-byte-requires-2 : tie.Need-sign-byte-requires-2
-sign-byte-requires-2 c κs = search needs
+array-read-t24 : tie.Need-array-read-t24
+array-read-t24 c = search needs
 
-digit-at-requires-6 : tie.Need-digit-at-requires-6
-digit-at-requires-6 c κs = search needs
+array-read-t27 : tie.Need-array-read-t27
+array-read-t27 c = search needs
 
-digit-at-requires-7 : tie.Need-digit-at-requires-7
-digit-at-requires-7 c κs = search needs
+array-read-t30 : tie.Need-array-read-t30
+array-read-t30 c = search needs
+
+array-read-t33 : tie.Need-array-read-t33
+array-read-t33 c = search needs
+
+array-read-t36 : tie.Need-array-read-t36
+array-read-t36 c = search needs
 
 returns : tie.Need-returns
 unfolding scientific
 returns c =
-    let digits = c .before .before .before in
-    let first = digits .before .before .before .before .before in
-    let start = first .before .before in
-    let a = start .before .before .before .before .args in
+    let k = c .before .before .before in
+    let a = k .before .before .args in
     let f : SFits w32 (a .v .mantissa) = search needs in
     let g : SFits w32 (a .v .exponent) = search needs in
     rw (
-      c .digit-at7 .ensures,
-      c .before .digit-at6 .ensures,
-      start .magnitude2 .ensures ∙ ap natAbs (toZ-ofZ g),
-      c .before .before .sign-byte2 .ensures ∙ ap signByte (toZ-ofZ g),
-      digits .digit-at5 .ensures,
-      digits .before .digit-at4 .ensures,
-      digits .before .before .digit-at3 .ensures,
-      digits .before .before .before .digit-at2 .ensures,
-      digits .before .before .before .before .digit-at .ensures,
-      start .before .magnitude .ensures ∙ ap natAbs (toZ-ofZ f),
-      first .sign-byte .ensures ∙ ap signByte (toZ-ofZ f),
-      div-one (natAbs (a .v .mantissa) / 10000),
+      c .before .scientific .ensures ∙ ap (scientific (k .magnitude .result)) (toZ-ofZ g),
+      k .magnitude .ensures ∙ ap natAbs (toZ-ofZ f),
+      c .sign-byte .ensures ∙ ap signByte (toZ-ofZ f),
     )
 
 pub value-bytes-spec : {M : Type 1} → statement M
@@ -73,14 +66,16 @@ value-bytes-spec =
     tie.close
     (tie.spec
     magnitude-requires
-    magnitude-requires-2
+    scientific-requires
     sign-byte-requires
-    digit-at-requires
-    digit-at-requires-2
-    digit-at-requires-3
-    digit-at-requires-4
-    digit-at-requires-5
-    sign-byte-requires-2
-    digit-at-requires-6
-    digit-at-requires-7
+    array-read-t9
+    array-read-t12
+    array-read-t15
+    array-read-t18
+    array-read-t21
+    array-read-t24
+    array-read-t27
+    array-read-t30
+    array-read-t33
+    array-read-t36
     returns)

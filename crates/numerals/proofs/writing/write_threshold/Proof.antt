@@ -1,23 +1,31 @@
--- `writing::write_threshold`: its digits and its exponent.
+-- `writing::write_threshold`: the bytes of its number appended.
 use mathlib.Core.Path.{ap, _∙_}
-use lib.IntN.{ℤ}
+use mathlib.Core.List.{List}
+use Prim.Native.Nat.{ℕ}
 use mir.Syntax.{w32}
 use mir.Val.{SFits}
 use mir.Facts.{toZ-ofZ}
+use borrow.Author.Needs.{needs}
 use Rattle.text.specs.Text.{puts}
 use Rattle.numerals.specs.Writing.{scientific}
-use borrow.Author.Needs.{needs}
 use Rattle.numerals.proofs.writing.write_threshold.Statement.{statement}
 use Rattle.numerals.proofs.writing.write_threshold.Tie as tie
 
 scientific-requires : tie.Need-scientific-requires
 scientific-requires c κs = search needs
 
+slice-aggregate-append : tie.Need-slice-aggregate-append
+slice-aggregate-append c = search needs
+
+append-requires : tie.Need-append-requires
+append-requires c κs = search needs
+
 returns : tie.Need-returns
 returns c =
-    let a = c .before .before .args in
+    let a = c .before .before .before .before .args in
     let f : SFits w32 (a .n .exponent) = search needs in
-    c .scientific .ensures ∙ ap (λ (e : ℤ). puts (a .t) (scientific (a .n .mantissa) e)) (toZ-ofZ f)
+    c .append .ensures ∙ ap (λ (l : List ℕ). puts (a .t) l) (c .before .before .scientific .ensures ∙ ap (scientific (a .n .mantissa)) (toZ-ofZ f))
 
 pub write-threshold-spec : {M : Type 1} → statement M
-write-threshold-spec = tie.close (tie.spec scientific-requires returns)
+write-threshold-spec =
+    tie.close (tie.spec scientific-requires slice-aggregate-append append-requires returns)

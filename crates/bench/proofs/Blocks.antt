@@ -1,43 +1,17 @@
 -- Blocks of input: lines found in one, the unfinished line moved to its start, and what is written for a line.
 use Prim.Native.Nat.{ℕ, _+_, _-_, _≤_, _<_}
 use mathlib.Core.Path.{_≡_, refl, sym, ap, _∙_}
-use mathlib.Core.List.{List, [], _∷_}
+use mathlib.Core.List.{List}
 use native.Mathlib.Omega.{arith}
 use native.Mathlib.Numerals.{add-one}
-use borrow.Author.Tests.{eq-eqb, ne-eqb}
-use lib.ListN.{length, getD, set, take, drop, length-set, length-take, length-drop, drop-of-length-le}
-use lib.Seq.{take-suc-set, take-suc, drop-cons, drop-set-lt, drop-drop, getD-drop}
-use mathlib.Core.Bool.{Bool, true, false, cond}
-use lib.Dec.{eqb}
+use lib.ListN.{length, getD, set, take, drop, length-set, length-take, length-drop}
+use lib.Seq.{take-suc-set, take-suc, drop-set-lt, drop-drop, getD-drop}
+use Rattle.text.proofs.Marks.{until-few}
 use Rattle.tpg.specs.declared.State.{State}
 use Rattle.frames.specs.Frames.{answerCall}
 use Rattle.frames.specs.declared.Answered.{Answered}
 use Rattle.frames.proofs.Bounds.{written-fits}
-use Rattle.bench.specs.Lines.{untilEnd, lineEnd, mostKept, blockSize}
-
--- ---- the end of a line
-
-pub until-few : (l : List ℕ) → length (untilEnd l) ≤ length l
-unfolding untilEnd
-until-few [] = omega arith
-until-few (b ∷ bs) = go (eqb b 10) (until-few bs)
-  where
-    go : (t : Bool) → length (untilEnd bs) ≤ length bs → length (cond t [] (b ∷ untilEnd bs)) ≤ length (b ∷ bs)
-    go true h = omega arith
-    go false h = omega arith
-
-module _ (block : List ℕ) (i : ℕ) where
-  pub end-here : i < length block → getD block i 0 ≡ 10 → lineEnd block i ≡ i
-  unfolding untilEnd
-  end-here h e = rw (drop-cons block i 0 h, eq-eqb (getD block i 0) 10 e) (omega arith)
-
-  pub end-later : i < length block → (getD block i 0 ≡ 10 → ⊥) → lineEnd block i ≡ lineEnd block (i + 1)
-  unfolding untilEnd
-  end-later h n = rw (drop-cons block i 0 h, ne-eqb (getD block i 0) 10 n, add-one i) (omega arith)
-
-  pub end-last : length block ≤ i → lineEnd block i ≡ i
-  unfolding untilEnd
-  end-last h = rw (drop-of-length-le block {i = i} h) (omega arith)
+use Rattle.bench.specs.Lines.{lineEnd, mostKept, blockSize}
 
 -- ---- the line that is kept
 
@@ -72,7 +46,7 @@ module _ {block₀ block : List ℕ} {from end i : ℕ} (k : Kept block₀ block
       }
 
 pub line-inside : (block : List ℕ) (from : ℕ) → from ≤ length block → (from ≤ lineEnd block from) × (lineEnd block from ≤ length block)
-line-inside block from h = (omega arith, omega (arith, until-few (drop from block), length-drop from block))
+line-inside block from h = (omega arith, omega (arith, until-few 10 (drop from block), length-drop from block))
 
 -- ---- the lines of a block
 

@@ -3,36 +3,23 @@ ghost use mathlib.Core.Path.{_≡_};
 ghost use Prim.Native.Nat.{_+_, _≤_};
 ghost use lib.ListN.{length, take, drop};
 ghost use Rattle.frames.specs.Frames.{longestLine};
-ghost use Rattle.bench.specs.Lines.{lineEnd, keptCount, blockSize};
+ghost use Rattle.bench.specs.Lines.{keptCount, blockSize};
+use frames::LONGEST_FRAME;
 use frames::LONGEST_LINE;
 use libc::STDIN_FILENO;
 use libc::STDOUT_FILENO;
+use text::spans::end_of;
 use tpg::State;
 
 const LF: u8 = 10;
 
 // Of an unfinished line so much is kept: one digit more than the longest frame has, so that it stays too long.
-const KEPT: usize = 123;
+const KEPT: usize = 2 * LONGEST_FRAME + 1;
 
 // The box, and where the first unfinished line of a block begins.
 struct Left {
     pub state: State,
     pub from: usize,
-}
-
-// Where the line ends that begins at a place: at its LF, or where the block ends.
-fn line_end(block: &[u8], from: usize) -> usize
-    requires { ⌜ from ≤ length (now block) ⌝ }
-    ensures { λ r. ⌜ r ≡ lineEnd (now (block .entry)) from ⌝ }
-{
-    let mut i = from;
-    while i < block.len() {
-        if block[i] == LF {
-            return i;
-        }
-        i += 1;
-    }
-    i
 }
 
 // What was written so far sent off where the longest line has no room behind it; the place to write on.
@@ -55,7 +42,7 @@ fn answer_lines(state: State, block: &[u8], out: &mut [u8]) -> Left
     let mut now = state;
     let mut from: usize = 0;
     let mut at: usize = 0;
-    let mut to = line_end(block, 0);
+    let mut to = end_of(block, 0, LF);
     while to < block.len() {
         at = make_room(out, at);
         let answered = frames::answer(now, &block[from..to], &mut out[at..]);
@@ -63,7 +50,7 @@ fn answer_lines(state: State, block: &[u8], out: &mut [u8]) -> Left
         now = next;
         at += answered.written;
         from = to + 1;
-        to = line_end(block, from);
+        to = end_of(block, from, LF);
     }
     io::write_all(STDOUT_FILENO, &out[..at]);
     Left { state: now, from }

@@ -13,7 +13,7 @@ mod taking;
 pub const LONGEST_LINE: usize = 2 * (1 + 255 * State::LEAST_OUTPUT) + 1;
 
 // The longest frame: its first byte and 60 host bytes.
-const LONGEST_FRAME: usize = 61;
+pub const LONGEST_FRAME: usize = 61;
 
 // What is answered where the output is shorter than the longest line.
 const SHORT_OUTPUT: u8 = 3;

@@ -27,6 +27,8 @@ use Rattle.settings.specs.declared.kinds.Kind.the-variants.{Threshold as Level}
 use Rattle.settings.specs.declared.kinds.Kinds.{Kinds}
 use Rattle.settings.proofs.Names.{not-three}
 use Rattle.settings.proofs.Sheets.{few}
+use Rattle.text.specs.Spans.{until}
+use Rattle.text.proofs.Marks.{until-few}
 use Rattle.lines.specs.Splitting.{fields, onFirst, word, behind}
 use Rattle.lines.specs.Fields.{read}
 use Rattle.lines.specs.Judging.{readings, formed, valued, judgedFields, alone, withFields, named, parted, judged}
@@ -58,20 +60,18 @@ split-by true b s w fs p q = ((λ e. absurd (omega arith)), (λ h. refl))
 split-by false b s w fs p q = ((λ e. ap (onFirst b) (p (omega arith))), (λ h. ap (onFirst b) (q (omega arith))))
 
 split : (s : List ℕ) → (length (word s) ≡ length s → fields s ≡ word s ∷ []) × (length (word s) < length s → fields s ≡ word s ∷ fields (behind s))
-unfolding word fields
+unfolding until fields
 split [] = ((λ e. refl), (λ h. absurd (omega arith)))
 split (b ∷ s) = split-by (eqb b 44) b s (word s) (fields s) (split s .0) (split s .1)
 
 -- the word is the beginning of the line
-word-is : (s : List ℕ) → (length (word s) ≤ length s) × (word s ≡ take (length (word s)) s)
-unfolding word
-word-is [] = (omega arith, refl)
-word-is (b ∷ s) =
-    cond-cases (λ w. (length w ≤ suc (length s)) × (w ≡ take (length w) (b ∷ s))) (eqb b 44) [] (b ∷ word s) (λ _. (omega arith, refl))
-    (λ _. (omega (arith, word-is s .0), ap (λ (l : List ℕ). b ∷ l) (word-is s .1)))
+word-is : (s : List ℕ) → word s ≡ take (length (word s)) s
+unfolding until
+word-is [] = refl
+word-is (b ∷ s) = cond-cases (λ w. w ≡ take (length w) (b ∷ s)) (eqb b 44) [] (b ∷ word s) (λ _. refl) (λ _. ap (λ (l : List ℕ). b ∷ l) (word-is s))
 
 word-short : (s : List ℕ) → length (word s) ≤ length s
-word-short s = word-is s .0
+word-short s = until-few 44 s
 
 -- so the fields are one of the two
 either-fields : (P : List (List ℕ) → Type 0) (s : List ℕ) → P (word s ∷ []) → P (word s ∷ fields (behind s)) → P (fields s)
@@ -93,18 +93,6 @@ first-field s = either-fields (λ fs. fs ≡ word s ∷ drop 1 fs) s refl refl
 -- ---- one byte more
 
 module _ (i : ℕ) (s : List ℕ) where
-  pub word-here : i < length s → getD s i 0 ≡ 44 → length (word (drop i s)) ≡ 0
-  unfolding word
-  word-here h e = rw (drop-cons s i 0 h, eq-eqb _ _ e)
-
-  pub word-more : i < length s → (getD s i 0 ≡ 44 → ⊥) → length (word (drop i s)) ≡ suc (length (word (drop (i + 1) s)))
-  unfolding word
-  word-more h e = rw (add-one i, drop-cons s i 0 h, ne-eqb _ _ e)
-
-  pub word-end : length s ≤ i → length (word (drop i s)) ≡ 0
-  unfolding word
-  word-end h = rw (drop-of-length-le s h)
-
   pub fields-here : i < length s → getD s i 0 ≡ 44 → length (fields (drop i s)) ≡ suc (length (fields (drop (i + 1) s)))
   unfolding fields
   fields-here h e = rw (add-one i, drop-cons s i 0 h, eq-eqb _ _ e)
@@ -124,7 +112,7 @@ module _ (s : List ℕ) (a : ℕ) (h : a ≤ length s) where
   end-inside = omega (arith, word-short (drop a s), length-drop a s)
 
   field-is : part a (a + length (word (drop a s))) s ≡ word (drop a s)
-  field-is = let e : a + length (word (drop a s)) - a ≡ length (word (drop a s)) = omega arith in rw e (sym (word-is (drop a s) .1))
+  field-is = let e : a + length (word (drop a s)) - a ≡ length (word (drop a s)) = omega arith in rw e (sym (word-is (drop a s)))
 
   next-is : drop (a + length (word (drop a s)) + 1) s ≡ behind (drop a s)
   next-is =
@@ -242,7 +230,7 @@ module _ (model : Model) where
   -- the word before the first comma, which ends at the place e, names the mnemonic
   pub line-named : (s : List ℕ) (e : ℕ) → e ≡ length (word s) → (c : Named) → recognised model (take e s) ≡ c → named model c (drop 1 (fields s)) ≡ judged model s
   line-named s e q c p =
-      let w : word s ≡ take e s = word-is s .1 ∙ ap (λ (n : ℕ). take n s) (sym q) in
+      let w : word s ≡ take e s = word-is s ∙ ap (λ (n : ℕ). take n s) (sym q) in
       sym (judged-parts s ∙ ap (parted model) (first-field s) ∙ ap (λ (c : Named). named model c (drop 1 (fields s))) (ap (recognised model) w ∙ p))
 
 -- ---- the mnemonic at the front of a line

@@ -5,6 +5,7 @@ use mathlib.Core.List.{List, [], _∷_, _++_}
 use mathlib.Core.Bool.{cond}
 use lib.Dec.{eqb}
 use lib.ListN.{length, drop}
+use Rattle.text.specs.Spans.{until}
 
 -- a byte in front of the first part
 abbrev pub onFirst : ℕ → List (List ℕ) → List (List ℕ)
@@ -23,9 +24,8 @@ joined (f ∷ []) = f
 joined (f ∷ g ∷ fs) = f ++ (code "," ∷ joined (g ∷ fs))
 
 -- the bytes before the first comma
-unfoldable pub word : List ℕ → List ℕ
-word [] = []
-word (b ∷ s) = cond (eqb b (code ",")) [] (b ∷ word s)
+abbrev pub word : List ℕ → List ℕ
+word s = until (code ",") s
 
 -- those behind it
 abbrev pub behind : List ℕ → List ℕ

@@ -16,20 +16,13 @@ use numerals::whole::read_whole;
 use settings::kinds::Kind;
 use settings::kinds::Limits;
 use settings::rows::plain;
+use text::spans::end_of;
 
 // Where the field that starts at a ends: at the next comma, or at the end of the line.
 pub(crate) fn field_end(s: &[u8], a: usize) -> usize
-    requires { ⌜ a ≤ length (now s) ⌝ }
     ensures { λ r. ⌜ r ≡ a + length (word (drop a (now (s .entry)))) ⌝ }
 {
-    let mut i = a;
-    while i < s.len() {
-        if s[i] == b',' {
-            return i;
-        }
-        i += 1;
-    }
-    i
+    end_of(s, a, b',')
 }
 
 // How many fields the line has from a on.

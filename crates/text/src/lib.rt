@@ -6,6 +6,7 @@ ghost use lib.Seq.{paste};
 ghost use Rattle.text.specs.Text.{empty, put, puts, laid, after};
 
 pub mod digits;
+pub mod spans;
 
 pub struct Text {
     pub bytes: [u8; 64],

@@ -16,13 +16,13 @@ Inv-loop block out₀ now₀ from₀ at₀ to₀ out now from at to = Answering 
 abbrev μ-loop : tie.MeasureT-loop
 μ-loop block out₀ now₀ from₀ at₀ to₀ out now from at to = length block - from
 
-line-end-requires : tie.Need-line-end-requires Inv-loop μ-loop
-line-end-requires c κs = omega arith
+end-of-requires : tie.Need-end-of-requires Inv-loop μ-loop
+end-of-requires c κs = omega arith
 
 loop-holds : tie.Need-loop-holds Inv-loop μ-loop
 loop-holds c =
     let p = c .before .before .before .pre in
-    record { low = omega arith; end = c .line-end .ensures; short = p .1; wide = p .0; same = refl; inside = omega arith }
+    record { low = omega arith; end = c .end-of .ensures; short = p .1; wide = p .0; same = refl; inside = omega arith }
 
 make-room-requires : tie.Need-make-room-requires Inv-loop μ-loop
 make-room-requires c κs =
@@ -63,8 +63,8 @@ add-from c =
     let l = c .before .before .before .before .before .before .before .before .before .before .loop in
     omega (arith, to-inside (l .inv) .1, l .inv .short)
 
-line-end-requires-2 : tie.Need-line-end-requires-2 Inv-loop μ-loop
-line-end-requires-2 c κs =
+end-of-requires-2 : tie.Need-end-of-requires-2 Inv-loop μ-loop
+end-of-requires-2 c κs =
     let l = c .before .before .before .before .before .before .before .before .before in
     omega (arith, l .loop-test .taken)
 
@@ -82,7 +82,7 @@ loop-again c =
     let inside : m .make-room .result + w .answer .result .written ≤ length (l .out) = written-inside _ _ (l .out) (m .make-room .result) _ (w .answer .ensures .0) (omega (arith, m .make-room .ensures)) in
     record {
       low = omega (arith, t .loop-test .taken);
-      end = c .line-end2 .ensures;
+      end = c .end-of2 .ensures;
       short = l .inv .short;
       wide = l .inv .wide;
       same = same-len-mid (m .make-room .result) (length (l .out) - m .make-room .result) (l .out) (w .answer .last .1 .1 .0) (w .answer .kept .1 .1 .0) ∙ l .inv .same;
@@ -112,7 +112,7 @@ answer-lines-spec =
     (tie.spec
     Inv-loop
     μ-loop
-    line-end-requires
+    end-of-requires
     loop-holds
     make-room-requires
     sub-answer
@@ -124,7 +124,7 @@ answer-lines-spec =
     answer-requires
     add-at
     add-from
-    line-end-requires-2
+    end-of-requires-2
     loop-less
     loop-again
     slice-reshare-prefix-write-all

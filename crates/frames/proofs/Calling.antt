@@ -16,11 +16,11 @@ use Rattle.gauges.specs.Readings.{withinLimits}
 use Rattle.gauges.specs.declared.reading.Reading.{Reading}
 use Rattle.tpg.specs.Answers.{number, done, leastOutput}
 use Rattle.tpg.specs.States.{stateWithin}
-use Rattle.tpg.specs.Steps.{next, sent, after, said, taken, over}
+use Rattle.tpg.specs.Steps.{after, said, over}
 use Rattle.tpg.specs.Calls.{admits, turnedAway, roomed, roomedBytes, hostText, hosted, freshCall, hostCall, hostBytes, isChannel, readingCall, cycleCall, afterTicks, ticksText, ticksCall, ticksBytes}
 use Rattle.tpg.specs.declared.State.{State}
 use Rattle.tpg.specs.declared.answers.Outcome.{Outcome}
-use Rattle.tpg.proofs.Sending.{sent-length}
+use Rattle.tpg.proofs.Counts.{all-taken}
 use Rattle.frames.specs.Frames.{silent, sending, hostFrame, readingOf, readingFrame, ticksFrame, modelNumber, freshFrame, toldOf}
 use Rattle.frames.specs.declared.taking.Told.{Told}
 
@@ -41,13 +41,7 @@ pub nothing-laid : (out : List ℕ) → out ≡ over [] out
 unfolding over
 nothing-laid out = refl
 
--- ---- all host bytes of a frame are taken
-
-pub all-taken : (l : List ℕ) (s : State) (free : ℕ) → leastOutput * length l ≤ free → taken s l free ≡ length l
-unfolding taken
-all-taken [] s free h = refl
-all-taken (b ∷ bs) s free h =
-    rw (le-leb leastOutput free (omega arith)) (ap suc (all-taken bs (next s b) (free - length (sent s b)) (omega (arith, sent-length s b))))
+-- ---- all host bytes of a frame are taken, where there is room for what they send
 
 pub host-all : (s : State) (l : List ℕ) (room : ℕ) → leastOutput * length l ≤ room
     → (hosted s l room ≡ done (after s l) (length l) (length (said s l))) × (hostText s l room ≡ said s l)

@@ -5,10 +5,10 @@ use lib.ListN.{getD, drop}
 use lib.Dec.{leb, eqb}
 use Rattle.numbers.proofs.Cases.{cond-cases}
 use Rattle.tpg.specs.Answers.{number}
-use Rattle.tpg.specs.States.{stateWithin}
+use Rattle.tpg.specs.States.{stateWithin, Sound}
 use Rattle.tpg.specs.Calls.{freshCall}
 use Rattle.tpg.specs.declared.State.{State}
-use Rattle.tpg.proofs.Kept.{Sound, after-sound, after-ticks-sound, fresh-call-sound, reading-sound, cycle-sound}
+use Rattle.tpg.proofs.Kept.{after-sound, after-ticks-sound, fresh-call-sound, reading-sound, cycle-sound}
 use Rattle.frames.specs.Frames.{Reply, bytesOf, sending, hostFrame, readingOf, readingFrame, ticksFrame, modelNumber, freshFrame, framed, reply}
 use Rattle.frames.proofs.Forms.{framed-cases}
 

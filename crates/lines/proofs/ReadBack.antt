@@ -1,5 +1,5 @@
--- Law (a): each kind reads what it writes, and what is written has no comma.
-use Prim.Native.Nat.{ℕ, zero, suc, _+_, _/_, _%_, _^_, _<_}
+-- Law (a): each kind reads what it writes; the bytes that are written, and that none is a comma.
+use Prim.Native.Nat.{ℕ, zero, suc, _+_, _/_, _%_, _^_, _≤_, _<_}
 use Prim.Native.Char.{code}
 use mathlib.Core.Path.{_≡_, refl, sym, ap, _∙_}
 use mathlib.Core.List.{List, [], _∷_, _++_}
@@ -23,48 +23,57 @@ use Rattle.settings.specs.declared.kinds.Limits.{Limits}
 use Rattle.settings.specs.declared.kinds.Kind.{Kind}
 use Rattle.settings.specs.declared.kinds.Kind.the-variants.{Whole, Factor, Threshold as Level}
 use Rattle.settings.specs.Lists.{Each}
+use Rattle.settings.proofs.Lists.{each-append}
 use Rattle.settings.proofs.Places.{fits-plain}
 use Rattle.lines.specs.Fields.{limited, ranged, thresholdField, read, write}
 use Rattle.lines.specs.declared.verdict.Field.the-variants.{Held}
 
--- ---- no comma in what is written
+-- ---- the bytes that are written
+
+-- what holds of all bytes that a number is written with
+pub record Written (P : ℕ → Type 0) : Type 0 where
+  pub digit : (b : ℕ) → 48 ≤ b → b ≤ 57 → P b
+  pub point : P (code ".")
+  pub letter : P (code "E")
+  pub plus : P (code "+")
+  pub minus : P (code "-")
+
+module _ {P : ℕ → Type 0} (w : Written P) where
+  each-dig : (k n : ℕ) → Each P (dig k n)
+  each-dig zero n = tt
+  each-dig (suc k) n = (w .digit (48 + n / 10 ^ k % 10) (omega arith) (omega arith), each-dig k n)
+
+  each-bare : (ds : List ℕ) → Each P ds → Each P (bare ds)
+  unfolding bare
+  each-bare [] p = tt
+  each-bare (d ∷ ds) p = cond-cases (Each P) (eqb d (code "0") && leb 1 (length ds)) (bare ds) (d ∷ ds) (λ _. each-bare ds (p .1)) (λ _. p)
+
+  each-whole : (n : ℕ) → Each P (wholeText n)
+  each-whole n = each-bare (dig 10 n) (each-dig 10 n)
+
+  each-sign : (e : ℤ) → P (signByte e)
+  each-sign (pos n) = w .plus
+  each-sign (negsuc n) = w .minus
+
+  each-threshold : (m : ℕ) (e : ℤ) → Each P (scientific m e)
+  unfolding scientific
+  each-threshold m e =
+      let end : List ℕ = code "E" ∷ signByte e ∷ dig 2 (natAbs e) in
+      each-append P (dig 1 (m / 10000)) (code "." ∷ (dig 4 m ++ end)) (each-dig 1 (m / 10000))
+      (w .point, each-append P (dig 4 m) end (each-dig 4 m) (w .letter, (each-sign e, each-dig 2 (natAbs e))))
+
+  pub each-written : (k : Kind) (c : Threshold) → Each P (write k c)
+  each-written (Whole l) c = each-whole (c .mantissa)
+  each-written (Factor l) c =
+      each-append P (wholeText (c .mantissa / 1000)) (code "." ∷ dig 3 (c .mantissa)) (each-whole (c .mantissa / 1000)) (w .point, each-dig 3 (c .mantissa))
+  each-written Level c = each-threshold (c .mantissa) (c .exponent)
 
 -- no byte is a comma
 abbrev pub Plain : List ℕ → Type 0
 Plain = Each (λ b. eqb b (code ",") ≡ false)
 
-plain-append : (s t : List ℕ) → Plain s → Plain t → Plain (s ++ t)
-plain-append [] t p q = q
-plain-append (b ∷ s) t p q = (p .0, plain-append s t (p .1) q)
-
-plain-dig : (k n : ℕ) → Plain (dig k n)
-plain-dig zero n = tt
-plain-dig (suc k) n = (ne-eqb (48 + n / 10 ^ k % 10) 44 (omega arith), plain-dig k n)
-
-plain-bare : (ds : List ℕ) → Plain ds → Plain (bare ds)
-unfolding bare
-plain-bare [] p = tt
-plain-bare (d ∷ ds) p = cond-cases Plain (eqb d (code "0") && leb 1 (length ds)) (bare ds) (d ∷ ds) (λ _. plain-bare ds (p .1)) (λ _. p)
-
-plain-whole : (n : ℕ) → Plain (wholeText n)
-plain-whole n = plain-bare (dig 10 n) (plain-dig 10 n)
-
-plain-sign : (e : ℤ) → eqb (signByte e) (code ",") ≡ false
-plain-sign (pos n) = refl
-plain-sign (negsuc n) = refl
-
-plain-threshold : (m : ℕ) (e : ℤ) → Plain (scientific m e)
-unfolding scientific
-plain-threshold m e =
-    let end : List ℕ = code "E" ∷ signByte e ∷ dig 2 (natAbs e) in
-    plain-append (dig 1 (m / 10000)) (code "." ∷ (dig 4 m ++ end)) (plain-dig 1 (m / 10000))
-    (refl, plain-append (dig 4 m) end (plain-dig 4 m) (refl, (plain-sign e, plain-dig 2 (natAbs e))))
-
 pub plain-written : (k : Kind) (c : Threshold) → Plain (write k c)
-plain-written (Whole l) c = plain-whole (c .mantissa)
-plain-written (Factor l) c =
-    plain-append (wholeText (c .mantissa / 1000)) (code "." ∷ dig 3 (c .mantissa)) (plain-whole (c .mantissa / 1000)) (refl, plain-dig 3 (c .mantissa))
-plain-written Level c = plain-threshold (c .mantissa) (c .exponent)
+plain-written = each-written (record { digit = (λ b l h. ne-eqb b 44 (λ e. omega arith)); point = refl; letter = refl; plus = refl; minus = refl })
 
 -- ---- read back
 

@@ -1,7 +1,7 @@
 -- Facts that hold of every member of a list.
 use Prim.Native.Nat.{ℕ, zero, suc}
 use mathlib.Core.Path.{_≡_, refl}
-use mathlib.Core.List.{List, [], _∷_, map}
+use mathlib.Core.List.{List, [], _∷_, _++_, map}
 use mathlib.Core.Bool.{Bool, true}
 use lib.ListN.{getD, take, drop}
 use Rattle.numbers.proofs.Cases.{and-true}
@@ -29,6 +29,10 @@ module _ {A : Type 0} where
   each-drop P zero xs p = p
   each-drop P (suc n) [] p = tt
   each-drop P (suc n) (x ∷ xs) p = each-drop P n xs (p .1)
+
+  pub each-append : (P : A → Type 0) (xs ys : List A) → Each P xs → Each P ys → Each P (xs ++ ys)
+  each-append P [] ys p q = q
+  each-append P (x ∷ xs) ys p q = (p .0, each-append P xs ys (p .1) q)
 
   -- what holds of what stands for a missing member too holds at every place
   pub each-at : (P : A → Type 0) (xs : List A) (d : A) → P d → Each P xs → (k : ℕ) → P (getD xs k d)

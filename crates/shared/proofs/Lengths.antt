@@ -93,7 +93,7 @@ texts-few (k ∷ ks) [] = omega arith
 texts-few (k ∷ ks) (c ∷ cs) = omega (arith, texts-few ks cs)
 
 -- with room for the end of the line
-setting-short : (model : Model) (s : Settings) (x : Setting) → length (settingText model s x) ≤ 62
+pub setting-short : (model : Model) (s : Settings) (x : Setting) → length (settingText model s x) ≤ 62
 unfolding settingText
 setting-short model s x =
     let ks = kinds model (Of x) in

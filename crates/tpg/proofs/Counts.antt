@@ -1,14 +1,16 @@
 -- The count of bytes taken is the one that the rule of 64 free bytes allows, and no other.
-use Prim.Native.Nat.{ℕ, zero, suc, _-_, _≤_, _<_}
+use Prim.Native.Nat.{ℕ, zero, suc, _*_, _-_, _≤_, _<_}
+use mathlib.Core.Path.{_≡_, refl, ap}
 use mathlib.Core.List.{List, [], _∷_}
 use native.Mathlib.Omega.{arith}
-use borrow.Author.Tests.{leb-true, leb-false}
+use borrow.Author.Tests.{leb-true, leb-false, le-leb}
 use lib.ListN.{length, take, length-append}
 use lib.Dec.{leb}
 use Rattle.numbers.proofs.Cases.{cond-cases}
 use Rattle.tpg.specs.Answers.{leastOutput}
 use Rattle.tpg.specs.Steps.{next, sent, said, taken}
 use Rattle.tpg.specs.declared.State.{State}
+use Rattle.tpg.proofs.Sending.{sent-length}
 
 -- not more than there are
 pub taken-few : (l : List ℕ) (s : State) (free : ℕ) → taken s l free ≤ length l
@@ -45,3 +47,10 @@ taken-stop (b ∷ bs) s free =
     (λ _ h. let q = taken-stop bs (next s b) (free - length (sent s b)) (omega arith) in
     rw (length-append (sent s b) (said (next s b) (take (taken (next s b) bs (free - length (sent s b))) bs))) (omega (arith, q)))
     (λ e h. omega (arith, leb-false leastOutput free e))
+
+-- with 64 bytes for each there is room for all
+pub all-taken : (l : List ℕ) (s : State) (free : ℕ) → leastOutput * length l ≤ free → taken s l free ≡ length l
+unfolding taken
+all-taken [] s free h = refl
+all-taken (b ∷ bs) s free h =
+    rw (le-leb leastOutput free (omega arith)) (ap suc (all-taken bs (next s b) (free - length (sent s b)) (omega (arith, sent-length s b))))

@@ -25,16 +25,11 @@ use Rattle.shared.specs.Limits.{sharedWithin, serialWithin, Whole}
 use Rattle.shared.specs.declared.Shared.{Shared}
 use Rattle.shared.proofs.Kept as shared
 use Rattle.tpg.specs.Answers.{answer, handed, leastOutput}
-use Rattle.tpg.specs.States.{stateWithin, freshBox, cycled, Formed}
+use Rattle.tpg.specs.States.{stateWithin, freshBox, cycled, Sound}
 use Rattle.tpg.specs.Steps.{acted, hearing, next, after}
 use Rattle.tpg.specs.Calls.{made, freshCall, admits, turnedAway, roomed, takenBytes, hosted, hostCall, counted, tickCall, afterTicks, allCounted, ticksCall, isChannel, read, readingCall, cycleCall}
 use Rattle.tpg.specs.declared.State.{State}
 use Rattle.tpg.specs.declared.answers.Outcome.{Outcome}
-
--- a state that a box can be in: its arrays have their lengths and its values their limits
-pub record Sound (s : State) : Type 0 where
-  pub formed : Formed s
-  pub within : stateWithin s ≡ true
 
 parts : (s : State) → stateWithin s ≡ true → (sharedWithin (s .shared) ≡ true) × (portWithin (s .shared .model) (s .port) ≡ true)
 unfolding stateWithin

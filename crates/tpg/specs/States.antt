@@ -1,6 +1,7 @@
 -- The state of a box (01, "Readings, switching, streaming": "State limits"; "Settings").
 use Prim.Native.Nat.{ℕ}
-use mathlib.Core.Bool.{Bool, _&&_}
+use mathlib.Core.Path.{_≡_}
+use mathlib.Core.Bool.{Bool, true, _&&_}
 use Rattle.settings.specs.Models.{defaults}
 use Rattle.settings.specs.declared.model.Model.{Model}
 use Rattle.settings.specs.declared.Settings.{Settings}
@@ -30,3 +31,8 @@ cycled s = startedBox (s .shared .model) (s .shared .serial) (s .shared .saved)
 pub record Formed (s : State) : Type 0 where
   pub shared : Whole (s .shared)
   pub port : Eighty (s .port)
+
+-- a state that a box can be in: its arrays have their lengths and its values their limits
+pub record Sound (s : State) : Type 0 where
+  pub formed : Formed s
+  pub within : stateWithin s ≡ true

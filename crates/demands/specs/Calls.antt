@@ -1,0 +1,63 @@
+-- The calls on a box and the table of their answers (01, "Answer numbers of the calls").
+use Prim.Native.Nat.{ℕ, _*_}
+use mathlib.Core.List.{List, [], _∷_}
+use mathlib.Core.Bool.{Bool, cond, not}
+use lib.Dec.{ltb}
+use Rattle.gauges.specs.Readings.{withinLimits}
+use Rattle.gauges.specs.declared.reading.Reading.{Reading}
+use Rattle.tpg.specs.Answers.{leastOutput}
+use Rattle.tpg.specs.States.{stateWithin}
+use Rattle.tpg.specs.Calls.{hostCall, hostBytes, tickCall, tickBytes, ticksCall, ticksBytes, isChannel, readingCall, cycleCall}
+use Rattle.tpg.specs.declared.State.{State}
+use Rattle.tpg.specs.declared.answers.Outcome.{Outcome}
+
+-- "take host bytes, take a gauge reading, take one tick of 100 ms, power cycle"; where an output is lent, its length comes last
+pub data Call : Type 0 where
+  host : List ℕ → ℕ → Call
+  reading : ℕ → Reading → Call
+  tick : ℕ → Call
+  ticks : ℕ → ℕ → Call
+  cycle : Call
+
+-- what the contract of the call promises
+abbrev pub outcome : State → Call → Outcome
+outcome s (host input room) = hostCall s input room
+outcome s (reading channel r) = readingCall s channel r
+outcome s (tick room) = tickCall s room
+outcome s (ticks n room) = ticksCall s n room
+outcome s cycle = cycleCall s
+
+-- and the bytes that it sends
+abbrev pub bytes : State → Call → List ℕ
+bytes s (host input room) = hostBytes s input room
+bytes s (reading channel r) = []
+bytes s (tick room) = tickBytes s room
+bytes s (ticks n room) = ticksBytes s n room
+bytes s cycle = []
+
+-- a row of the table: its number, and whether what stands under "Given when" is so
+pub record Refusal : Type 0 where
+  pub number : ℕ
+  pub given : Bool
+
+abbrev pub row : ℕ → Bool → Refusal
+row number given = record { number = number; given = given }
+
+-- "the state handed in breaks a limit below", "output shorter than 64 bytes", "channel not on the model", "reading outside its limits"
+abbrev pub refusals : State → Call → List Refusal
+refusals s (host input room) = row 1 (not (stateWithin s)) ∷ row 3 (ltb room leastOutput) ∷ []
+refusals s (reading channel r) =
+    row 1 (not (stateWithin s)) ∷ row 4 (not (isChannel (s .shared .model) channel)) ∷ row 5 (not (withinLimits r)) ∷ []
+refusals s (tick room) = row 1 (not (stateWithin s)) ∷ row 3 (ltb room leastOutput) ∷ []
+refusals s (ticks n room) = row 1 (not (stateWithin s)) ∷ row 3 (ltb room (leastOutput * n)) ∷ []
+refusals s cycle = row 1 (not (stateWithin s)) ∷ []
+
+-- "Tested in the order 1 to 5": the first that is given, and 0 "otherwise"
+abbrev pub firstGiven : List Refusal → ℕ
+firstGiven [] = 0
+firstGiven (r ∷ rs) = cond (r .given) (r .number) (firstGiven rs)
+
+-- the state after calls, one after the other
+abbrev pub afterCalls : State → List Call → State
+afterCalls s [] = s
+afterCalls s (c ∷ cs) = afterCalls (outcome s c .state) cs

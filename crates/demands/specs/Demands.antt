@@ -1,0 +1,101 @@
+-- What is demanded of a box, said of what it sends for host bytes and of its state after them, so that it can be asked of any program
+-- (01, "What the promises have to decide").
+use Prim.Native.Nat.{ℕ, _-_, _≤_, _<_}
+use mathlib.Core.Path.{_≡_}
+use mathlib.Core.List.{List, [], _∷_, _++_}
+use mathlib.Core.Bool.{true}
+use mathlib.Core.Logic.{_≢_, _↔_}
+use lib.ListN.{length, take, drop}
+use Rattle.settings.specs.Lists.{Each}
+use Rattle.settings.specs.Mnemonics.{sheet, known, name, answers}
+use Rattle.settings.specs.Rows.{cells}
+use Rattle.settings.specs.declared.mnemonic.Setting.{Setting}
+use Rattle.settings.specs.declared.mnemonic.Mnemonic.{Mnemonic}
+use Rattle.settings.specs.declared.rows.Row.{Row}
+use Rattle.settings.specs.declared.Settings.{Settings}
+use Rattle.settings.specs.declared.model.Model.{Model}
+use Rattle.lines.specs.Judging.{judged}
+use Rattle.lines.specs.declared.verdict.Verdict.the-variants.{Writes}
+use Rattle.shared.specs.Replies.{replyText}
+use Rattle.tpg.specs.Answers.{leastOutput}
+use Rattle.tpg.specs.States.{Sound}
+use Rattle.tpg.specs.Steps.{said}
+use Rattle.tpg.specs.declared.State.{State}
+use Rattle.demands.specs.Wire.{ack, Typeable, asking, anew, answered, writtenText, inquiries, replies, commands, acks}
+
+-- what a program sends for host bytes, and its state after them
+abbrev pub Says : Type 0
+Says = State → List ℕ → List ℕ
+
+abbrev pub Becomes : Type 0
+Becomes = State → List ℕ → State
+
+-- ---- demand 2
+
+-- "Each reply is byte for byte what the mnemonics protocol and paper 01 give": for a line and an ENQ, in every state
+abbrev pub Answers : Says → Type 0
+Answers says =
+    (s : State) (l : List ℕ) → Typeable l → says s (anew (asking l)) ≡ answered (s .shared) (s .port .error) (judged (s .shared .model) l)
+
+-- a mnemonic that the model answers is read
+abbrev pub Reads : Says → State → Mnemonic → Type 0
+Reads says s m = answers (s .shared .model) m ≡ true → says s (anew (asking (name m))) ≡ ack ++ replyText (s .shared) (s .port .error) m
+
+-- and a line that writes it is answered with what it wrote
+abbrev pub WritesBack : Says → State → Mnemonic → Type 0
+WritesBack says s m =
+    (l : List ℕ) (r : Row) → Typeable l → judged (s .shared .model) l ≡ Writes m r
+    → says s (anew (asking l)) ≡ ack ++ writtenText (s .shared) (s .port .error) m r
+
+-- every mnemonic that the model knows, read and written
+abbrev pub Replies : Says → Type 0
+Replies says = (s : State) → Sound s → Each (λ (m : Mnemonic). Reads says s m × WritesBack says s m) (known (s .shared .model))
+
+-- ---- demand 3
+
+abbrev pub modelOf : State → Model
+modelOf s = s .shared .model
+
+abbrev pub settingsOf : State → Settings
+settingsOf s = s .shared .settings
+
+-- what is asked of a box for its sheet, and the sheet of one box as it is sent to another
+abbrev pub sheetAsked : State → List ℕ
+sheetAsked s = inquiries (sheet (modelOf s))
+
+-- "two states of one model within the limits"
+pub record Boxes (a b : State) : Type 0 where
+  pub first : Sound a
+  pub second : Sound b
+  pub model : modelOf a ≡ modelOf b
+
+-- "what comes back is an ACK and the reply of each, and its settings are as they were"
+abbrev pub SheetRead : Says → Becomes → Type 0
+SheetRead says becomes =
+    (a : State) → Sound a
+    → (says a (sheetAsked a) ≡ replies (modelOf a) (settingsOf a) (sheet (modelOf a))) × (settingsOf (becomes a (sheetAsked a)) ≡ settingsOf a)
+
+-- the lines of a's sheet for some settings
+abbrev pub linesOf : State → List Setting → List ℕ
+linesOf a xs = commands (modelOf a) (settingsOf a) xs
+
+-- "all are accepted and the settings are equal"
+abbrev pub SheetCopied : Says → Becomes → Type 0
+SheetCopied says becomes =
+    (a b : State) → Boxes a b
+    → (says b (linesOf a (sheet (modelOf a))) ≡ acks (sheet (modelOf a))) × (settingsOf (becomes b (linesOf a (sheet (modelOf a)))) ≡ settingsOf a)
+
+-- the cells of a setting in a box are those of another
+abbrev pub Same : State → State → Setting → Type 0
+Same a b x = cells (modelOf a) (settingsOf a) x ≡ cells (modelOf a) (settingsOf b) x
+
+-- "cut after any number n of whole lines: the settings named so far are equal, and the rest are the second box's own"
+abbrev pub SheetCut : Becomes → Type 0
+SheetCut becomes =
+    (a b : State) → Boxes a b → (n : ℕ)
+    → let c = becomes b (linesOf a (take n (sheet (modelOf a)))) in
+    Each (Same a c) (take n (sheet (modelOf a))) × Each (Same b c) (drop n (sheet (modelOf a)))
+
+-- "two such boxes give equal sheets exactly when their settings are equal"
+abbrev pub SheetsDecide : Says → Type 0
+SheetsDecide says = (a b : State) → Boxes a b → (says a (sheetAsked a) ≡ says b (sheetAsked b)) ↔ (settingsOf a ≡ settingsOf b)

@@ -33,9 +33,13 @@ ack = 6 ∷ lineEnd
 abbrev pub nak : List ℕ
 nak = 21 ∷ lineEnd
 
--- "A line holds up to 80 characters": bytes above the space and below 127
+-- a byte above the space and below 127
+abbrev pub Character : ℕ → Type 0
+Character b = (33 ≤ b) × (b ≤ 126)
+
+-- "A line holds up to 80 characters"
 pub record Typeable (l : List ℕ) : Type 0 where
-  pub characters : Each (λ b. (33 ≤ b) × (b ≤ 126)) l
+  pub characters : Each Character l
   pub few : length l ≤ 80
 
 -- a line, and "CR ends a line"
@@ -44,7 +48,7 @@ ended l = l ++ (13 ∷ [])
 
 -- a line, its CR, and "ENQ on an empty line"
 abbrev pub asking : List ℕ → List ℕ
-asking l = l ++ (13 ∷ 5 ∷ [])
+asking l = ended l ++ (5 ∷ [])
 
 -- "ETX empties the line, a bad one too, clears the selection"
 abbrev pub anew : List ℕ → List ℕ
@@ -60,11 +64,12 @@ answered s error (Asks m) = ack ++ selectedText s error m
 answered s error (Writes m r) = ack ++ selectedText (written s m r) error m
 answered s error (Refused x) = nak ++ replyText s (gathered error x) (Asked Err)
 
--- what was written, as the ENQ behind it tells: the fields' own values; "CFx takes one factor and answers one per channel"
+-- what was written, as the ENQ behind it tells: the fields' own values; "CFx takes one factor and answers one per channel"; what takes no field
+-- is never written
 abbrev pub writtenText : Shared → Word → Mnemonic → Row → List ℕ
 writtenText s error (Of x) r = joined (texts (kinds (s .model) (Of x)) (take (count (s .model) x) (listed r))) ++ lineEnd
 writtenText s error (Cf k) r = joined (texts (kinds (s .model) (Of Cal)) (set (cells (s .model) (s .settings) Cal) k (r .first))) ++ lineEnd
-writtenText s error (Asked q) r = []
+writtenText s error (Asked q) r = replyText s error (Asked q)
 writtenText s error Com r = replyText s error (Asked Err)
 writtenText s error Sav r = replyText s error (Asked Err)
 

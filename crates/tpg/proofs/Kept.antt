@@ -51,7 +51,7 @@ module _ (model : Model) (serial : ℕ) (h : serialWithin serial ≡ true) where
 -- ---- one byte, and a run of bytes
 
 -- an event leaves the model, and the lengths of the arrays
-heard-model : (s : Shared) (v : Verdict) → heard s v .model ≡ s .model
+pub heard-model : (s : Shared) (v : Verdict) → heard s v .model ≡ s .model
 unfolding written
 heard-model s (Asks m) = refl
 heard-model s (Writes m r) = refl

@@ -1,0 +1,149 @@
+-- Demand 2: each reply is what 01 gives, for every line and the ENQ behind it, and for every mnemonic read and written.
+use Prim.Native.Nat.{ℕ, zero, suc, _≤_, _<_}
+use mathlib.Core.Path.{_≡_, refl, sym, ap, subst, _∙_}
+use mathlib.Core.List.{List, [], _∷_, _++_}
+use mathlib.Core.Bool.{Bool, true, false, cond, _&&_}
+use native.Mathlib.Omega.{arith}
+use borrow.Author.Tests.{ltb-true}
+use lib.ListN.{length, set, take}
+use lib.Dec.{ltb}
+use Rattle.numbers.proofs.Cases.{never, and-true}
+use Rattle.numbers.specs.declared.threshold.Threshold.{Threshold}
+use Rattle.settings.specs.Models.{channels}
+use Rattle.settings.specs.Mnemonics.{sheet, known, name, recognised, isKnown, channelOf, hasReply, answers}
+use Rattle.settings.specs.Kinds.{factor, kinds}
+use Rattle.settings.specs.Rows.{plain, pairRow, row, listed, number, count, cells, stored}
+use Rattle.settings.specs.Lists.{Each}
+use Rattle.settings.specs.declared.model.Model.{Model}
+use Rattle.settings.specs.declared.mnemonic.Setting.{Setting}
+use Rattle.settings.specs.declared.mnemonic.Setting.the-variants.{Cal}
+use Rattle.settings.specs.declared.mnemonic.Query.{Query}
+use Rattle.settings.specs.declared.mnemonic.Query.the-variants.{Sps, Pr, Prx, Tid, Ayt, Err}
+use Rattle.settings.specs.declared.mnemonic.Mnemonic.{Mnemonic}
+use Rattle.settings.specs.declared.mnemonic.Mnemonic.the-variants.{Setting as Of, Cf, Query as Asked, Com, Sav}
+use Rattle.settings.specs.declared.rows.Row.{Row}
+use Rattle.settings.specs.declared.Settings.{Settings}
+use Rattle.settings.proofs.Lists.{each-map, each-both}
+use Rattle.settings.proofs.Places.{fits-plain, row-places}
+use Rattle.settings.proofs.Storing.{Holding, mixed-front, stored-row, factor-row}
+use Rattle.settings.proofs.Sheets.{sheet-holding, few, known-each}
+use Rattle.settings.proofs.Keeping.{Fitting, fitting-canon}
+use Rattle.lines.specs.Judging.{alone, judged}
+use Rattle.lines.specs.Replies.{texts, settingText, lineEnd}
+use Rattle.lines.specs.declared.word.Word.{Word}
+use Rattle.lines.specs.declared.verdict.Verdict.{Verdict}
+use Rattle.lines.specs.declared.verdict.Verdict.the-variants.{Asks, Writes, Refused}
+use Rattle.lines.proofs.Accepted.{Spelt, all-spelt}
+use Rattle.lines.proofs.Kept.{writes-fitting}
+use Rattle.shared.specs.Events.{written, heard}
+use Rattle.shared.specs.Replies.{replyText}
+use Rattle.shared.specs.declared.Shared.{Shared}
+use Rattle.tpg.specs.States.{Sound}
+use Rattle.tpg.specs.Steps.{lineText, next, said}
+use Rattle.tpg.specs.declared.State.{State}
+use Rattle.demands.specs.Wire.{ack, Typeable, asking, anew, selectedText, answered, writtenText}
+use Rattle.demands.specs.Demands.{Answers, Reads, WritesBack, Replies}
+use Rattle.demands.proofs.Typing.{choice, gathering, enqText, line-asked, anew-line, anew-shared, anew-said}
+use Rattle.demands.proofs.Spelling.{Short, names-short, name-typeable, name-judged}
+
+-- ---- every line
+
+selected-text : (s : Shared) (error : Word) (m : Mnemonic) → enqText s error (choice (Asks m)) ≡ selectedText s error m
+selected-text s error (Of x) = refl
+selected-text s error (Cf k) = refl
+selected-text s error (Asked q) = refl
+selected-text s error Com = refl
+selected-text s error Sav = refl
+
+answered-text : (s : Shared) (error : Word) (v : Verdict) → lineText v ++ enqText (heard s v) (gathering error v) (choice v) ≡ answered s error v
+answered-text s error (Asks m) = ap (λ (t : List ℕ). ack ++ t) (selected-text s error m)
+answered-text s error (Writes m r) = ap (λ (t : List ℕ). ack ++ t) (selected-text (written s m r) error m)
+answered-text s error (Refused x) = refl
+
+-- whatever came before: a line and an ENQ are answered by the verdict on the line
+pub line-answered : Answers said
+line-answered s l t =
+    anew-said s (asking l) ∙ line-asked (next s 3) (anew-line s) l t .0
+    ∙ ap (λ (x : Shared). lineText (judged (x .model) l) ++ enqText (heard x (judged (x .model) l)) (gathering (s .port .error) (judged (x .model) l)) (choice (judged (x .model) l))) (anew-shared s)
+    ∙ answered-text (s .shared) (s .port .error) (judged (s .shared .model) l)
+
+-- ---- a mnemonic that is read
+
+alone-asks : (m : Mnemonic) → hasReply m ≡ true → alone m ≡ Asks m
+alone-asks (Of x) h = refl
+alone-asks (Cf k) h = refl
+alone-asks (Asked q) h = refl
+alone-asks Com h = never (cc)
+alone-asks Sav h = never (cc)
+
+reads : (s : State) (m : Mnemonic) → Spelt (s .shared .model) m → Short (name m) → Reads said s m
+unfolding answers
+reads s m sp short a =
+    let model = s .shared .model in
+    let b = and-true (isKnown (recognised model (name m))) (ltb (channelOf m) (channels model) && hasReply m) a .1 in
+    let c = and-true (ltb (channelOf m) (channels model)) (hasReply m) b in
+    let v : judged model (name m) ≡ Asks m = name-judged model m sp (ltb-true (channelOf m) (channels model) (c .0)) ∙ alone-asks m (c .1) in
+    line-answered s (name m) (name-typeable m short) ∙ ap (answered (s .shared) (s .port .error)) v ∙ rw (c .1)
+
+-- ---- a line that writes it
+
+take-set : {A : Type 0} (n i : ℕ) (v : A) (l : List A) → take n (set l i v) ≡ set (take n l) i v
+take-set zero i v l = refl
+take-set (suc n) i v [] = refl
+take-set (suc n) zero v (x ∷ l) = refl
+take-set (suc n) (suc i) v (x ∷ l) = ap (λ (t : List _). x ∷ t) (take-set n i v l)
+
+module _ (s : State) (k : Sound s) where
+  -- what the ENQ tells of a line that wrote is what it wrote
+  Back : Mnemonic → Type 0
+  Back m = (r : Row) → Fitting (kinds (s .shared .model) m) r → selectedText (written (s .shared) m r) (s .port .error) m ≡ writtenText (s .shared) (s .port .error) m r
+
+  -- the cells of a setting are the line's
+  setting-back : (x : Setting) → Holding x → Back (Of x)
+  unfolding Back replyText written settingText
+  setting-back x h r f =
+      let m = s .shared .model in
+      let b = s .shared .settings in
+      rw (stored-row m b r (k .formed .shared .settings) h (fitting-canon m r h f), mixed-front (count m x) r (row b x) (few m x))
+
+  -- of CAL's cells only the channel's own is
+  factor-back : (c : ℕ) → c < 2 → Back (Cf c)
+  unfolding Back replyText written settingText
+  factor-back c h r f =
+      let m = s .shared .model in
+      let b = s .shared .settings in
+      let fits = row-places (factor ∷ []) r (pairRow 0 0) f 0 (omega arith) in
+      let own : plain (number r) ≡ r .first = sym (fits-plain (record { least = 100; most = 10000; reach = 10000 }) (r .first) fits) in
+      rw (factor-row m b r (k .formed .shared .settings) c h, own, take-set (count m Cal) c (r .first) (listed (row b Cal)))
+
+  query-back : (q : Query) → Back (Asked q)
+  unfolding Back replyText written
+  query-back q r f = refl
+
+  com-back : Back Com
+  unfolding Back replyText written
+  com-back r f = refl
+
+  sav-back : Back Sav
+  unfolding Back replyText written
+  sav-back r f = refl
+
+  -- those of the sheet, and the others
+  all-back : Each Back (known (s .shared .model))
+  all-back =
+      known-each Back (s .shared .model) (each-map Holding (λ (x : Setting). Back (Of x)) setting-back (sheet (s .shared .model)) (sheet-holding (s .shared .model)))
+      (factor-back 0 (omega arith), (factor-back 1 (omega arith), (query-back Sps, (query-back (Pr 0), (query-back (Pr 1), (query-back Prx, (query-back Tid, (query-back Ayt, (query-back Err,
+      (com-back, (sav-back, tt)))))))))))
+
+  writes-back : (m : Mnemonic) → Back m → WritesBack said s m
+  unfolding Back
+  writes-back m b l r t e =
+      line-answered s l t ∙ ap (answered (s .shared) (s .port .error)) e ∙ ap (λ (x : List ℕ). ack ++ x) (b r (writes-fitting (s .shared .model) l m r e))
+
+-- every mnemonic that the model knows, read and written, in every state that a box can be in
+pub mnemonics-answered : Replies said
+mnemonics-answered s k =
+    let model = s .shared .model in
+    each-both (λ (m : Mnemonic). Reads said s m) (WritesBack said s) (λ (m : Mnemonic). Reads said s m × WritesBack said s m) (λ m a b. (a, b)) (known model)
+    (each-both (Spelt model) (λ (m : Mnemonic). Short (name m)) (λ (m : Mnemonic). Reads said s m) (reads s) (known model) (all-spelt model) (names-short model))
+    (each-map (Back s k) (WritesBack said s) (writes-back s k) (known model) (all-back s k))

@@ -1,0 +1,104 @@
+-- The lines of a sheet can be typed: names and written numbers are characters, and few enough.
+use Prim.Native.Nat.{ℕ, _+_, _≤_, _<_}
+use Prim.Native.Char.{code}
+use mathlib.Core.Path.{_≡_, refl, ap, _∙_}
+use mathlib.Core.List.{List, [], _∷_, _++_}
+use mathlib.Core.Bool.{Bool, true, _&&_}
+use native.Mathlib.Omega.{arith}
+use borrow.Author.Tests.{leb-true}
+use lib.ListN.{length, length-append}
+use lib.Dec.{leb}
+use Rattle.numbers.specs.declared.threshold.Threshold.{Threshold}
+use Rattle.numbers.proofs.Cases.{and-true, ranged}
+use Rattle.settings.specs.Models.{channels}
+use Rattle.settings.specs.Mnemonics.{sheet, known, name, channelOf}
+use Rattle.settings.specs.Kinds.{kinds}
+use Rattle.settings.specs.Rows.{cells}
+use Rattle.settings.specs.Lists.{every, Each}
+use Rattle.settings.specs.declared.model.Model.{Model}
+use Rattle.settings.specs.declared.mnemonic.Setting.{Setting}
+use Rattle.settings.specs.declared.mnemonic.Mnemonic.{Mnemonic}
+use Rattle.settings.specs.declared.mnemonic.Mnemonic.the-variants.{Setting as Of}
+use Rattle.settings.specs.declared.kinds.Kind.{Kind}
+use Rattle.settings.specs.declared.Settings.{Settings}
+use Rattle.settings.proofs.Lists.{each-map, each-append, every-each}
+use Rattle.settings.proofs.Sheets.{sheet-each}
+use Rattle.lines.specs.Splitting.{joined}
+use Rattle.lines.specs.Judging.{alone, withFields, judged}
+use Rattle.lines.specs.Replies.{texts, settingText}
+use Rattle.lines.specs.Sheets.{lineOf}
+use Rattle.lines.proofs.ReadBack.{Written, each-written}
+use Rattle.lines.proofs.Accepted.{Spelt, line-fields}
+use Rattle.ports.specs.Limits.{inRange}
+use Rattle.shared.proofs.Lengths.{setting-short}
+use Rattle.demands.specs.Wire.{Character, Typeable}
+
+-- ---- names
+
+-- three characters
+short : List ℕ → Bool
+short n = every (inRange 33 126) n && leb (length n) 3
+
+pub record Short (n : List ℕ) : Type 0 where
+  pub characters : Each Character n
+  pub few : length n ≤ 3
+
+short-names : (model : Model) → every (λ (m : Mnemonic). short (name m)) (known model) ≡ true
+unfolding known every short
+short-names model = refl
+
+pub names-short : (model : Model) → Each (λ (m : Mnemonic). Short (name m)) (known model)
+unfolding short
+names-short model =
+    each-map (λ (m : Mnemonic). short (name m) ≡ true) (λ (m : Mnemonic). Short (name m))
+    (λ m e. let b = and-true (every (inRange 33 126) (name m)) (leb (length (name m)) 3) e in
+    record {
+      characters = each-map _ Character (λ c. ranged 33 126 c) (name m) (every-each (inRange 33 126) (name m) (b .0));
+      few = leb-true (length (name m)) 3 (b .1);
+    })
+    (known model) (every-each (λ (m : Mnemonic). short (name m)) (known model) (short-names model))
+
+pub name-typeable : (m : Mnemonic) → Short (name m) → Typeable (name m)
+name-typeable m h = record { characters = h .characters; few = omega (arith, h .few) }
+
+-- ---- what is written
+
+each-joined : (P : ℕ → Type 0) → P (code ",") → (fs : List (List ℕ)) → Each (Each P) fs → Each P (joined fs)
+each-joined P c [] p = tt
+each-joined P c (f ∷ []) p = p .0
+each-joined P c (f ∷ g ∷ fs) p = each-append P f (44 ∷ joined (g ∷ fs)) (p .0) (c, each-joined P c (g ∷ fs) (p .1))
+
+written-characters : Written Character
+written-characters = record {
+  digit = (λ b l h. (omega arith, omega arith));
+  point = (omega arith, omega arith);
+  letter = (omega arith, omega arith);
+  plus = (omega arith, omega arith);
+  minus = (omega arith, omega arith);
+}
+
+texts-characters : (ks : List Kind) (cs : List Threshold) → Each (Each Character) (texts ks cs)
+texts-characters [] cs = tt
+texts-characters (k ∷ ks) [] = tt
+texts-characters (k ∷ ks) (c ∷ cs) = (each-written written-characters k c, texts-characters ks cs)
+
+pub setting-characters : (model : Model) (s : Settings) (x : Setting) → Each Character (settingText model s x)
+unfolding settingText
+setting-characters model s x =
+    let ks = kinds model (Of x) in
+    let cs = cells model s x in
+    each-joined Character (omega arith, omega arith) (texts ks cs) (texts-characters ks cs)
+
+-- a mnemonic, a comma and its reply
+pub line-typeable : (model : Model) (s : Settings) (x : Setting) → Short (name (Of x)) → Typeable (lineOf model s x)
+line-typeable model s x h =
+    record {
+      characters = each-append Character (name (Of x)) (44 ∷ settingText model s x) (h .characters) ((omega arith, omega arith), setting-characters model s x);
+      few = omega (arith, length-append (name (Of x)) (44 ∷ settingText model s x), h .few, setting-short model s x);
+    }
+
+-- ---- a name alone
+
+pub name-judged : (model : Model) (m : Mnemonic) → Spelt model m → channelOf m < channels model → judged model (name m) ≡ alone m
+unfolding withFields
+name-judged model m sp h = line-fields model m sp [] h tt

@@ -1,3 +1,4 @@
 pub mod Typing
 pub mod Spelling
 pub mod Replying
+pub mod Copying

@@ -63,9 +63,11 @@ answered-text s error (Refused x) = refl
 -- whatever came before: a line and an ENQ are answered by the verdict on the line
 pub line-answered : Answers said
 line-answered s l t =
-    anew-said s (asking l) ∙ line-asked (next s 3) (anew-line s) l t .0
-    ∙ ap (λ (x : Shared). lineText (judged (x .model) l) ++ enqText (heard x (judged (x .model) l)) (gathering (s .port .error) (judged (x .model) l)) (choice (judged (x .model) l))) (anew-shared s)
-    ∙ answered-text (s .shared) (s .port .error) (judged (s .shared .model) l)
+    let v = judged (s .shared .model) l in
+    let same = anew-shared s in
+    anew-said s (asking l) ∙ line-asked (next s 3) (anew-line s) l t v (ap (λ (x : Shared). judged (x .model) l) same) .0
+    ∙ ap (λ (x : Shared). lineText v ++ enqText (heard x v) (gathering (s .port .error) v) (choice v)) same
+    ∙ answered-text (s .shared) (s .port .error) v
 
 -- ---- a mnemonic that is read
 
@@ -131,9 +133,34 @@ module _ (s : State) (k : Sound s) where
   -- those of the sheet, and the others
   all-back : Each Back (known (s .shared .model))
   all-back =
-      known-each Back (s .shared .model) (each-map Holding (λ (x : Setting). Back (Of x)) setting-back (sheet (s .shared .model)) (sheet-holding (s .shared .model)))
-      (factor-back 0 (omega arith), (factor-back 1 (omega arith), (query-back Sps, (query-back (Pr 0), (query-back (Pr 1), (query-back Prx, (query-back Tid, (query-back Ayt, (query-back Err,
-      (com-back, (sav-back, tt)))))))))))
+      known-each Back (s .shared .model) (each-map Holding (λ (x : Setting). Back (Of x)) setting-back (sheet (s .shared .model)) (sheet-holding (s .shared .model))) (
+        factor-back 0 (omega arith),
+        (
+          factor-back 1 (omega arith),
+          (
+            query-back Sps,
+            (
+              query-back (Pr 0),
+              (
+                query-back (Pr 1),
+                (
+                  query-back Prx,
+                  (
+                    query-back Tid,
+                    (
+                      query-back Ayt,
+                      (
+                        query-back Err,
+                        (com-back, (sav-back, tt)),
+                      ),
+                    ),
+                  ),
+                ),
+              ),
+            ),
+          ),
+        ),
+      )
 
   writes-back : (m : Mnemonic) → Back m → WritesBack said s m
   unfolding Back

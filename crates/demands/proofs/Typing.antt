@@ -139,9 +139,9 @@ unfolding portHeard
 no-lf model p b e = rw (e, and-no (p .ended))
 
 -- what a line comes to: what is sent, what all share, and the port with an empty line again
-pub record Judged (s : State) (error : Word) (v : Verdict) (bytes : List ℕ) (next : State) : Type 0 where
+pub record Judged (s : Shared) (error : Word) (v : Verdict) (bytes : List ℕ) (next : State) : Type 0 where
   pub reply : bytes ≡ lineText v
-  pub shared : next .shared ≡ heard (s .shared) v
+  pub shared : next .shared ≡ heard s v
   pub line : Line (next .port) [] (choice v) (gathering error v)
 
 held-line : {p : Port} {l : List ℕ} {selection : Selection} {error : Word} → Line p l selection error → held p ≡ l
@@ -156,9 +156,9 @@ abbrev pub wordLeft : Word → Selection → Word
 wordLeft error Nothing = noError
 wordLeft error (Chosen m) = cond (isErr m) noError error
 
-pub record Replied (s : State) (error : Word) (selection : Selection) (bytes : List ℕ) (next : State) : Type 0 where
-  pub reply : bytes ≡ enqText (s .shared) error selection
-  pub shared : next .shared ≡ s .shared
+pub record Replied (s : Shared) (error : Word) (selection : Selection) (bytes : List ℕ) (next : State) : Type 0 where
+  pub reply : bytes ≡ enqText s error selection
+  pub shared : next .shared ≡ s
   pub line : Line (next .port) [] selection (wordLeft error selection)
 
 replied-line : {p : Port} {m : Mnemonic} {error : Word} → Line p [] (Chosen m) error → Line (replied p m .port) [] (Chosen m) (cond (isErr m) noError error)
@@ -180,13 +180,13 @@ answered-line s {selection = Chosen m} h = (ap (λ (w : Word). replyText s w m) 
 
 module _ (s : State) where
   cr-judges : {l : List ℕ} {selection : Selection} {error : Word} → Line (s .port) l selection error
-      → Judged s error (judged (s .shared .model) l) (sent s 13) (next s 13)
+      → Judged (s .shared) error (judged (s .shared .model) l) (sent s 13) (next s 13)
   unfolding next sent eventText byKind kindOf
   cr-judges {l} h =
       rw (no-lf (s .shared .model) (s .port) 13 refl, held-line h)
       (record { reply = refl; shared = refl; line = concluded-line (marked-line (emptied-line (settled-line h)) true) (judged (s .shared .model) l) })
 
-  enq-replies : {selection : Selection} {error : Word} → Line (s .port) [] selection error → Replied s error selection (sent s 5) (next s 5)
+  enq-replies : {selection : Selection} {error : Word} → Line (s .port) [] selection error → Replied (s .shared) error selection (sent s 5) (next s 5)
   unfolding next sent eventText byKind kindOf
   enq-replies {selection} {error} h =
       rw (no-lf (s .shared .model) (s .port) 5 refl, asked-empty (settled-line h))
@@ -200,24 +200,23 @@ module _ (s : State) where
 
 -- ---- a line and its CR
 
-module _ (s : State) {selection : Selection} {error : Word} (empty : Line (s .port) [] selection error) where
-  pub line-judged : (l : List ℕ) → Typeable l → Judged s error (judged (s .shared .model) l) (said s (ended l)) (after s (ended l))
+module _ (s : State) {selection : Selection} {error : Word} (empty : Line (s .port) [] selection error) (l : List ℕ) (t : Typeable l)
+    (v : Verdict) (verdict : judged (s .shared .model) l ≡ v) where
+  pub line-judged : Judged (s .shared) error v (said s (ended l)) (after s (ended l))
   unfolding after said
-  line-judged l t =
+  line-judged =
       let typed = typed-run l s (t .characters) in
       let held = typed-line [] l empty (t .characters) (omega (arith, t .few)) in
-      let c = cr-judges (record { shared = s .shared; port = typedAll (s .port) l }) held in
-      rw (said-append l (13 ∷ []) s, after-append l (13 ∷ []) s, typed .0, typed .1, append-nil (sent (record { shared = s .shared; port = typedAll (s .port) l }) 13))
-      (record { reply = c .reply; shared = c .shared; line = c .line })
+      let full : State = record { shared = s .shared; port = typedAll (s .port) l } in
+      rw (said-append l (13 ∷ []) s, after-append l (13 ∷ []) s, typed .0, typed .1, append-nil (sent full 13)) (rw verdict at (cr-judges full held))
 
   -- and the ENQ behind it
-  pub line-asked : (l : List ℕ) → Typeable l → let v = judged (s .shared .model) l in
-      (said s (asking l) ≡ lineText v ++ enqText (heard (s .shared) v) (gathering error v) (choice v))
+  pub line-asked : (said s (asking l) ≡ lineText v ++ enqText (heard (s .shared) v) (gathering error v) (choice v))
       × (after s (asking l) .shared ≡ heard (s .shared) v)
       × Line (after s (asking l) .port) [] (choice v) (wordLeft (gathering error v) (choice v))
   unfolding after said
-  line-asked l t =
-      let j = line-judged l t in
+  line-asked =
+      let j = line-judged in
       let now = after s (ended l) in
       let r = enq-replies now (j .line) in
       rw (said-append (ended l) (5 ∷ []) s, after-append (ended l) (5 ∷ []) s, append-nil (sent now 5), r .reply, j .reply, r .shared, j .shared) (refl, refl, r .line)

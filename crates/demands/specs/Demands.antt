@@ -85,16 +85,16 @@ SheetCopied says becomes =
     (a b : State) → Boxes a b
     → (says b (linesOf a (sheet (modelOf a))) ≡ acks (sheet (modelOf a))) × (settingsOf (becomes b (linesOf a (sheet (modelOf a)))) ≡ settingsOf a)
 
--- the cells of a setting in a box are those of another
-abbrev pub Same : State → State → Setting → Type 0
-Same a b x = cells (modelOf a) (settingsOf a) x ≡ cells (modelOf a) (settingsOf b) x
+-- a setting of a model is the same in two boxes
+abbrev pub Same : Model → State → State → Setting → Type 0
+Same model a b x = cells model (settingsOf a) x ≡ cells model (settingsOf b) x
 
 -- "cut after any number n of whole lines: the settings named so far are equal, and the rest are the second box's own"
 abbrev pub SheetCut : Becomes → Type 0
 SheetCut becomes =
     (a b : State) → Boxes a b → (n : ℕ)
     → let c = becomes b (linesOf a (take n (sheet (modelOf a)))) in
-    Each (Same a c) (take n (sheet (modelOf a))) × Each (Same b c) (drop n (sheet (modelOf a)))
+    Each (Same (modelOf a) c a) (take n (sheet (modelOf a))) × Each (Same (modelOf a) c b) (drop n (sheet (modelOf a)))
 
 -- "two such boxes give equal sheets exactly when their settings are equal"
 abbrev pub SheetsDecide : Says → Type 0

@@ -1,0 +1,230 @@
+-- Demand 3: a sheet of settings is read from one box and sent to another of the model, over bytes. Proved over a list of settings, and so
+-- over the sheet of any model.
+use Prim.Native.Nat.{ℕ, _<_}
+use mathlib.Core.Path.{_≡_, refl, sym, ap, ap₂, subst, _∙_}
+use mathlib.Core.List.{List, [], _∷_, _++_, map, flatMap, append-assoc}
+use mathlib.Core.Bool.{true}
+use mathlib.Core.Logic.{_≢_, _↔_}
+use native.Mathlib.Omega.{arith}
+use lib.ListN.{take, drop}
+use Rattle.numbers.proofs.Cases.{never, and-true}
+use Rattle.settings.specs.Models.{channels}
+use Rattle.settings.specs.Mnemonics.{sheet, name}
+use Rattle.settings.specs.Rows.{cells}
+use Rattle.settings.specs.Lists.{Each}
+use Rattle.settings.specs.Limits.{within}
+use Rattle.settings.specs.declared.model.Model.{Model}
+use Rattle.settings.specs.declared.model.Model.the-variants.{Tpg361, Tpg362}
+use Rattle.settings.specs.declared.mnemonic.Setting.{Setting}
+use Rattle.settings.specs.declared.mnemonic.Mnemonic.{Mnemonic}
+use Rattle.settings.specs.declared.mnemonic.Mnemonic.the-variants.{Setting as Of}
+use Rattle.settings.specs.declared.rows.Row.{Row}
+use Rattle.settings.specs.declared.Settings.{Settings}
+use Rattle.settings.proofs.Lists.{each-map, each-both, each-take}
+use Rattle.settings.proofs.Sheets.{sheet-each}
+use Rattle.lines.specs.Judging.{rowOf, judged, effect}
+use Rattle.lines.specs.Replies.{settingText, lineEnd}
+use Rattle.lines.specs.Sheets.{lineOf, after as afterLines}
+use Rattle.lines.specs.declared.word.Word.{Word}
+use Rattle.lines.specs.declared.verdict.Verdict.{Verdict}
+use Rattle.lines.specs.declared.verdict.Verdict.the-variants.{Asks, Writes, Refused}
+use Rattle.lines.proofs.Accepted.{Spelt, all-spelt, sheet-accepted}
+use Rattle.lines.proofs.Copy.{cut-named, cut-others, whole-copy, equal-sheets}
+use Rattle.ports.specs.Limits.{portWithin}
+use Rattle.ports.specs.declared.Selection.{Selection}
+use Rattle.shared.specs.Events.{written, heard}
+use Rattle.shared.specs.Limits.{sharedWithin}
+use Rattle.shared.specs.Replies.{replyText}
+use Rattle.shared.specs.declared.Shared.{Shared}
+use Rattle.shared.proofs.Kept as shared
+use Rattle.tpg.specs.States.{stateWithin, Sound}
+use Rattle.tpg.specs.Steps.{lineText, next, after, said}
+use Rattle.tpg.specs.declared.State.{State}
+use Rattle.tpg.proofs.Runs.{after-append, said-append}
+use Rattle.tpg.proofs.Kept.{heard-model}
+use Rattle.demands.specs.Wire.{ack, Character, Typeable, ended, asking, anew, inquiries, replies, commands, acks}
+use Rattle.demands.specs.Demands.{modelOf, settingsOf, sheetAsked, Boxes, SheetRead, linesOf, SheetCopied, Same, SheetCut, SheetsDecide}
+use Rattle.demands.proofs.Typing.{Line, line-judged, line-asked, anew-line, anew-shared, anew-said, anew-after}
+use Rattle.demands.proofs.Spelling.{Short, names-short, name-typeable, setting-characters, line-typeable, name-judged}
+
+-- ---- what a sheet needs of its mnemonics
+
+-- its name can be typed, and asks for it
+record Asked (model : Model) (x : Setting) : Type 0 where
+  short : Short (name (Of x))
+  asks : judged model (name (Of x)) ≡ Asks (Of x)
+
+-- ---- the inquiries
+
+module _ (shared : Shared) where
+  inquired : (xs : List Setting) (s : State) {selection : Selection} {error : Word} → s .shared ≡ shared → Line (s .port) [] selection error → Each (Asked (shared .model)) xs
+      → (said s (flatMap (λ (x : Setting). asking (name (Of x))) xs) ≡ replies (shared .model) (shared .settings) xs)
+      × (after s (flatMap (λ (x : Setting). asking (name (Of x))) xs) .shared ≡ shared)
+  unfolding flatMap after said replyText
+  inquired [] s same empty h = (refl, same)
+  inquired (x ∷ xs) s {error = error} same empty h =
+      let bytes = asking (name (Of x)) in
+      let rest = flatMap (λ (x : Setting). asking (name (Of x))) xs in
+      let verdict : judged (s .shared .model) (name (Of x)) ≡ Asks (Of x) = ap (λ (t : Shared). judged (t .model) (name (Of x))) same ∙ h .0 .asks in
+      let one = line-asked s empty (name (Of x)) (name-typeable (Of x) (h .0 .short)) (Asks (Of x)) verdict in
+      let all = inquired xs (after s bytes) (one .1 ∙ same) (one .2) (h .1) in (
+        said-append bytes rest s ∙ ap₂ (λ (t u : List ℕ). t ++ u) (one .0 ∙ ap (λ (t : Shared). ack ++ replyText t error (Of x)) same) (all .0),
+        ap (λ (t : State). t .shared) (after-append bytes rest s) ∙ all .1,
+      )
+
+-- ---- the lines of a sheet
+
+-- what the lines of a's sheet need: they can be typed, and are accepted by every box of the model
+record Sent (model : Model) (a : Settings) (x : Setting) : Type 0 where
+  typeable : Typeable (lineOf model a x)
+  row : Row
+  writes : judged model (lineOf model a x) ≡ Writes (Of x) row
+
+-- a line does to the settings what the lines' own law says
+heard-settings : (s : Shared) (v : Verdict) → heard s v .settings ≡ effect (s .model) (s .settings) v
+unfolding written
+heard-settings s (Asks m) = refl
+heard-settings s (Writes m r) = refl
+heard-settings s (Refused x) = refl
+
+module _ (model : Model) (a : Settings) where
+  -- what lines make of a box: all are accepted, and its settings are those after the lines
+  record Made (xs : List Setting) (s : State) : Type 0 where
+    accepted : said s (flatMap (λ (x : Setting). ended (lineOf model a x)) xs) ≡ acks xs
+    settings : settingsOf (after s (flatMap (λ (x : Setting). ended (lineOf model a x)) xs)) ≡ afterLines model (settingsOf s) (map (lineOf model a) xs)
+    saved : after s (flatMap (λ (x : Setting). ended (lineOf model a x)) xs) .shared .saved ≡ s .shared .saved
+    readings : after s (flatMap (λ (x : Setting). ended (lineOf model a x)) xs) .shared .readings ≡ s .shared .readings
+
+  commanded : (xs : List Setting) (s : State) {selection : Selection} {error : Word} → modelOf s ≡ model → Line (s .port) [] selection error → Each (Sent model a) xs → Made xs s
+  unfolding flatMap after said written
+  commanded [] s same empty h = record { accepted = refl; settings = refl; saved = refl; readings = refl }
+  commanded (x ∷ xs) s same empty h =
+      let line = lineOf model a x in
+      let bytes = ended line in
+      let rest = flatMap (λ (x : Setting). ended (lineOf model a x)) xs in
+      let v = Writes (Of x) (h .0 .row) in
+      let verdict : judged (modelOf s) line ≡ v = ap (λ (m : Model). judged m line) same ∙ h .0 .writes in
+      let one = line-judged s empty line (h .0 .typeable) v verdict in
+      let now = after s bytes in
+      let all = commanded xs now (ap (λ (t : Shared). t .model) (one .shared) ∙ heard-model (s .shared) v ∙ same) (one .line) (h .1) in
+      let set : settingsOf now ≡ effect model (settingsOf s) (judged model line) =
+      ap (λ (t : Shared). t .settings) (one .shared) ∙ heard-settings (s .shared) v ∙ ap₂ (λ (m : Model) (u : Verdict). effect m (settingsOf s) u) same (sym (h .0 .writes)) in
+      record {
+        accepted = said-append bytes rest s ∙ ap₂ (λ (t u : List ℕ). t ++ u) (one .reply) (all .accepted);
+        settings = ap settingsOf (after-append bytes rest s) ∙ all .settings ∙ ap (λ (t : Settings). afterLines model t (map (lineOf model a) xs)) set;
+        saved = ap (λ (t : State). t .shared .saved) (after-append bytes rest s) ∙ all .saved ∙ ap (λ (t : Shared). t .saved) (one .shared);
+        readings = ap (λ (t : State). t .shared .readings) (after-append bytes rest s) ∙ all .readings ∙ ap (λ (t : Shared). t .readings) (one .shared);
+      }
+
+-- ---- the sheet of a model
+
+some-channel : (model : Model) → 0 < channels model
+some-channel Tpg361 = omega arith
+some-channel Tpg362 = omega arith
+
+sheet-asked : (model : Model) → Each (Asked model) (sheet model)
+sheet-asked model =
+    each-both (λ (x : Setting). Spelt model (Of x)) (λ (x : Setting). Short (name (Of x))) (Asked model)
+    (λ x sp short. record { short = short; asks = name-judged model (Of x) sp (some-channel model) }) (sheet model)
+    (sheet-each (Spelt model) model (all-spelt model)) (sheet-each (λ (m : Mnemonic). Short (name m)) model (names-short model))
+
+settings-within : (s : State) → Sound s → within (modelOf s) (settingsOf s) ≡ true
+unfolding stateWithin
+settings-within s k = shared.parts (s .shared) (and-true (sharedWithin (s .shared)) (portWithin (modelOf s) (s .port)) (k .within) .0) .settings
+
+sheet-sent : (a : State) → Sound a → Each (Sent (modelOf a) (settingsOf a)) (sheet (modelOf a))
+sheet-sent a k =
+    let model = modelOf a in
+    each-both (λ (x : Setting). Short (name (Of x))) _ (Sent model (settingsOf a))
+    (λ x short e. record { typeable = line-typeable model (settingsOf a) x short; row = rowOf (cells model (settingsOf a) x); writes = e }) (sheet model)
+    (sheet-each (λ (m : Mnemonic). Short (name m)) model (names-short model)) (sheet-accepted model (settingsOf a) (settings-within a k))
+
+-- ---- the four theorems
+
+pub sheet-read : SheetRead said after
+sheet-read a k =
+    let all = inquired (a .shared) (sheet (modelOf a)) (next a 3) (anew-shared a) (anew-line a) (sheet-asked (modelOf a)) in
+    (anew-said a _ ∙ all .0, ap settingsOf (anew-after a _) ∙ ap (λ (t : Shared). t .settings) (all .1))
+
+module _ (a b : State) (both : Boxes a b) where
+  made : (xs : List Setting) → Each (Sent (modelOf a) (settingsOf a)) xs → Made (modelOf a) (settingsOf a) xs (next b 3)
+  made xs = commanded (modelOf a) (settingsOf a) xs (next b 3) (ap (λ (t : Shared). t .model) (anew-shared b) ∙ sym (both .model)) (anew-line b)
+
+  -- the settings after lines of the sheet, and what no line of it changes
+  copied : (xs : List Setting) → Each (Sent (modelOf a) (settingsOf a)) xs
+      → settingsOf (after b (linesOf a xs)) ≡ afterLines (modelOf a) (settingsOf b) (map (lineOf (modelOf a) (settingsOf a)) xs)
+  copied xs h =
+      ap settingsOf (anew-after b _) ∙ made xs h .settings
+      ∙ ap (λ (t : Shared). afterLines (modelOf a) (t .settings) (map (lineOf (modelOf a) (settingsOf a)) xs)) (anew-shared b)
+
+  -- no line of the sheet touches the saved set or a reading
+  pub copy-keeps : (n : ℕ) → let c = after b (linesOf a (take n (sheet (modelOf a)))) in
+      (c .shared .saved ≡ b .shared .saved) × (c .shared .readings ≡ b .shared .readings)
+  copy-keeps n =
+      let m = made (take n (sheet (modelOf a))) (each-take (Sent (modelOf a) (settingsOf a)) n (sheet (modelOf a)) (sheet-sent a (both .first))) in (
+        ap (λ (t : State). t .shared .saved) (anew-after b _) ∙ m .saved ∙ ap (λ (t : Shared). t .saved) (anew-shared b),
+        ap (λ (t : State). t .shared .readings) (anew-after b _) ∙ m .readings ∙ ap (λ (t : Shared). t .readings) (anew-shared b),
+      )
+
+  -- the second box within the limits of the first one's model
+  own : within (modelOf a) (settingsOf b) ≡ true
+  own = subst (λ m. within m (settingsOf b) ≡ true) (sym (both .model)) (settings-within b (both .second))
+
+pub sheet-copied : SheetCopied said after
+sheet-copied a b both =
+    let model = modelOf a in
+    let sent = sheet-sent a (both .first) in (
+      anew-said b _ ∙ made a b both (sheet model) sent .accepted,
+      copied a b both (sheet model) sent
+          ∙ whole-copy model (settingsOf a) (settingsOf b) (both .first .formed .shared .settings) (both .second .formed .shared .settings)
+          (settings-within a (both .first)) (own a b both),
+    )
+
+pub sheet-cut : SheetCut after
+sheet-cut a b both n =
+    let model = modelOf a in
+    let sent = each-take (Sent model (settingsOf a)) n (sheet model) (sheet-sent a (both .first)) in
+    let e = copied a b both (take n (sheet model)) sent in
+    let sa = both .first .formed .shared .settings in
+    let sb = both .second .formed .shared .settings in
+    let wa = settings-within a (both .first) in
+    rw e (cut-named model (settingsOf a) (settingsOf b) sa sb wa (own a b both) n, cut-others model (settingsOf a) (settingsOf b) sa sb wa (own a b both) n)
+
+-- ---- a sheet tells the settings
+
+-- what stands before the first CR
+until-cr : (t u x y : List ℕ) → Each (λ (c : ℕ). c ≢ 13) t → Each (λ (c : ℕ). c ≢ 13) u → t ++ (13 ∷ x) ≡ u ++ (13 ∷ y) → (t ≡ u) × (x ≡ y)
+until-cr [] [] x y p q e = (refl, cc)
+until-cr [] (c ∷ u) x y p q e = absurd (q .0 (cc))
+until-cr (c ∷ t) [] x y p q e = absurd (p .0 (cc))
+until-cr (c ∷ t) (d ∷ u) x y p q e =
+    let both = until-cr t u x y (p .1) (q .1) (cc) in
+    let same : c ≡ d = cc in
+    (ap₂ (λ (h : ℕ) (l : List ℕ). h ∷ l) same (both .0), both .1)
+
+no-cr : (l : List ℕ) → Each Character l → Each (λ (c : ℕ). c ≢ 13) l
+no-cr = each-map Character (λ (c : ℕ). c ≢ 13) (λ c h e. omega (arith, h .0))
+
+-- each reply ends at its CR, so equal bytes are equal replies
+replies-texts : (model : Model) (a b : Settings) (xs : List Setting) → replies model a xs ≡ replies model b xs → map (settingText model a) xs ≡ map (settingText model b) xs
+unfolding flatMap
+replies-texts model a b [] e = refl
+replies-texts model a b (x ∷ xs) e =
+    let t = settingText model a x in
+    let u = settingText model b x in
+    let f : t ++ (13 ∷ 10 ∷ replies model a xs) ≡ u ++ (13 ∷ 10 ∷ replies model b xs) =
+    sym (append-assoc t lineEnd (replies model a xs)) ∙ ap (drop 3) e ∙ append-assoc u lineEnd (replies model b xs) in
+    let r = until-cr t u _ _ (no-cr t (setting-characters model a x)) (no-cr u (setting-characters model b x)) f in
+    ap₂ (λ (h : List ℕ) (l : List (List ℕ)). h ∷ l) (r .0) (replies-texts model a b xs (ap (drop 1) (r .1)))
+
+pub sheets-decide : SheetsDecide said
+sheets-decide a b both =
+    let model = modelOf a in
+    let first = sheet-read a (both .first) .0 in
+    let second : said b (sheetAsked b) ≡ replies model (settingsOf b) (sheet model) =
+    sheet-read b (both .second) .0 ∙ ap (λ (m : Model). replies m (settingsOf b) (sheet m)) (sym (both .model)) in
+    let decide = equal-sheets model (settingsOf a) (settingsOf b) (both .first .formed .shared .settings) (both .second .formed .shared .settings)
+    (settings-within a (both .first)) (own a b both) in (
+      (λ e. decide .0 (replies-texts model (settingsOf a) (settingsOf b) (sheet model) (sym first ∙ e ∙ second))),
+      (λ e. first ∙ ap (λ (s : Settings). replies model s (sheet model)) e ∙ sym second),
+    )

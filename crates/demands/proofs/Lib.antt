@@ -2,3 +2,4 @@ pub mod Typing
 pub mod Spelling
 pub mod Replying
 pub mod Copying
+pub mod Excluded

@@ -99,3 +99,20 @@ SheetCut becomes =
 -- "two such boxes give equal sheets exactly when their settings are equal"
 abbrev pub SheetsDecide : Says → Type 0
 SheetsDecide says = (a b : State) → Boxes a b → (says a (sheetAsked a) ≡ says b (sheetAsked b)) ↔ (settingsOf a ≡ settingsOf b)
+
+-- ---- the empty programs that 01 excludes by name
+
+-- "a box that NAKs everything": it never sends an ACK
+abbrev pub NaksAll : Says → Type 0
+NaksAll says = (s : State) (bytes : List ℕ) → Each (λ (b : ℕ). b ≢ 6) (says s bytes)
+
+-- "one that always sends the same reply": whatever it is asked, or in whatever state
+abbrev pub BlindToLines : Says → Type 0
+BlindToLines says = (s : State) (l k : List ℕ) → says s (anew (asking l)) ≡ says s (anew (asking k))
+
+abbrev pub BlindToStates : Says → Type 0
+BlindToStates says = (s t : State) (l : List ℕ) → says s (anew (asking l)) ≡ says t (anew (asking l))
+
+-- "one that ACKs and stores nothing", or only the first line of a sheet: there is a setting that it never stores
+abbrev pub Forgets : Becomes → Setting → Type 0
+Forgets becomes x = (s : State) (bytes : List ℕ) → Same (modelOf s) (becomes s bytes) s x

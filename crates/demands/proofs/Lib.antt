@@ -1,3 +1,6 @@
+pub mod Demanded
+pub mod Splitting
+pub mod Counting
 pub mod Typing
 pub mod Spelling
 pub mod Replying

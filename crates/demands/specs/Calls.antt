@@ -1,8 +1,8 @@
 -- The calls on a box and the table of their answers (01, "Answer numbers of the calls").
 use Prim.Native.Nat.{ℕ, _*_}
 use mathlib.Core.List.{List, [], _∷_}
-use mathlib.Core.Bool.{Bool, cond, not}
-use lib.Dec.{ltb}
+use mathlib.Core.Bool.{Bool, cond, not, _||_}
+use lib.Dec.{eqb, ltb}
 use Rattle.gauges.specs.Readings.{withinLimits}
 use Rattle.gauges.specs.declared.reading.Reading.{Reading}
 use Rattle.tpg.specs.Answers.{leastOutput}
@@ -51,6 +51,10 @@ refusals s (reading channel r) =
 refusals s (tick room) = row 1 (not (stateWithin s)) ∷ row 3 (ltb room leastOutput) ∷ []
 refusals s (ticks n room) = row 1 (not (stateWithin s)) ∷ row 3 (ltb room (leastOutput * n)) ∷ []
 refusals s cycle = row 1 (not (stateWithin s)) ∷ []
+
+-- the call that makes a box: "model not 361 or 362, or serial above 99999999"
+abbrev pub freshRefusals : ℕ → ℕ → List Refusal
+freshRefusals model serial = row 2 (not (eqb model 361 || eqb model 362) || ltb 99999999 serial) ∷ []
 
 -- "Tested in the order 1 to 5": the first that is given, and 0 "otherwise"
 abbrev pub firstGiven : List Refusal → ℕ

@@ -100,6 +100,18 @@ SheetCut becomes =
 abbrev pub SheetsDecide : Says → Type 0
 SheetsDecide says = (a b : State) → Boxes a b → (says a (sheetAsked a) ≡ says b (sheetAsked b)) ↔ (settingsOf a ≡ settingsOf b)
 
+-- ---- the counts
+
+-- n bytes are taken into an output of that length: "it goes on while input remains and at least 64 output bytes are free before the byte"
+pub record Allowed (s : State) (input : List ℕ) (room n : ℕ) : Type 0 where
+  pub few : n ≤ length input
+  pub free : (i : ℕ) → i < n → leastOutput ≤ room - length (said s (take i input))
+  pub full : n < length input → room - length (said s (take n input)) < leastOutput
+
+-- a way of counting that does so in every state, for every input and output
+abbrev pub Rule : (State → List ℕ → ℕ → ℕ) → Type 0
+Rule takes = (s : State) (input : List ℕ) (room : ℕ) → Allowed s input room (takes s input room)
+
 -- ---- the empty programs that 01 excludes by name
 
 -- "a box that NAKs everything": it never sends an ACK

@@ -6,7 +6,7 @@ use mathlib.Core.Bool.{Bool, true, false, cond, _&&_, _||_}
 use mathlib.Core.Logic.{_≢_}
 use native.Mathlib.Omega.{arith}
 use native.Mathlib.Numerals.{add-one}
-use borrow.Author.Tests.{ltb-true, eqb-false, lt-ltb, le-leb}
+use borrow.Author.Tests.{ltb-true, eqb-true, eqb-false, lt-ltb, le-leb}
 use lib.ListN.{length, getD, set, take, drop, length-set}
 use lib.Seq.{drop-cons, drop-set-lt, take-suc-set}
 use lib.Dec.{eqb, leb, ltb}
@@ -289,25 +289,39 @@ ticked-within model p h =
 
 -- ---- what a byte makes the box do
 
-module _ (Q : Event → Type 0) (model : Model) (p : Port) (b : ℕ) (silent : Q Silent) (line : Q (Line (judged model (held p))))
-    (word : Q (Reply (Asked Err) (p .error))) (reply : (m : Mnemonic) → p .selection ≡ Chosen m → Q (Reply m (p .error))) where
-  kind-event : (k : ByteKind) → Q (byKind model k (stopped (withMark p false)) b .event)
-  unfolding byKind
-  kind-event Cr = line
-  kind-event Dropped = silent
-  kind-event Etx = silent
-  kind-event Enq = asked-by (λ (h : Heard). Q (h .event)) (stopped (withMark p false)) word reply
-  kind-event Character = silent
-  kind-event Spoiling = silent
+cr-byte : (b : ℕ) → kindOf b ≡ Cr → b ≡ 13
+unfolding kindOf
+cr-byte b = by (eqb b 13) (eqb b 10 || eqb b 32) (eqb b 3) (eqb b 5) (ltb 32 b && ltb b 127) refl
+  where
+    by : (cr dropped etx enq character : Bool) → eqb b 13 ≡ cr
+        → cond cr Cr (cond dropped Dropped (cond etx Etx (cond enq Enq (cond character Character Spoiling)))) ≡ Cr → b ≡ 13
+    by true dropped etx enq character e q = eqb-true b 13 e
+    by false true etx enq character e q = never (cc)
+    by false false true enq character e q = never (cc)
+    by false false false true character e q = never (cc)
+    by false false false false true e q = never (cc)
+    by false false false false false e q = never (cc)
 
-  heard-event : Q (heard model p b .event)
-  heard-event = heard-by (λ (h : Heard). Q (h .event)) model p b silent (λ k _. kind-event k)
+-- only a CR ends a line
+module _ (Q : Event → Type 0) (model : Model) (p : Port) (b : ℕ) (silent : Q Silent) (line : b ≡ 13 → Q (Line (judged model (held p))))
+    (word : Q (Reply (Asked Err) (p .error))) (reply : (m : Mnemonic) → p .selection ≡ Chosen m → Q (Reply m (p .error))) where
+  kind-event : (k : ByteKind) → kindOf b ≡ k → Q (byKind model k (stopped (withMark p false)) b .event)
+  unfolding byKind
+  kind-event Cr e = line (cr-byte b e)
+  kind-event Dropped e = silent
+  kind-event Etx e = silent
+  kind-event Enq e = asked-by (λ (h : Heard). Q (h .event)) (stopped (withMark p false)) word reply
+  kind-event Character e = silent
+  kind-event Spoiling e = silent
+
+  pub heard-event : Q (heard model p b .event)
+  heard-event = heard-by (λ (h : Heard). Q (h .event)) model p b silent kind-event
 
 -- the verdict of a line that ended is the verdict on what the line held
 pub heard-line : (model : Model) (p : Port) (b : ℕ) (v : Verdict) → heard model p b .event ≡ Line v → v ≡ judged model (held p)
 heard-line model p b v =
     heard-event (λ (x : Event). x ≡ Line v → v ≡ judged model (held p)) model p b
-    (λ e. never (cc)) (λ e. cc) (λ e. never (cc)) (λ m _ e. never (cc))
+    (λ e. never (cc)) (λ _ e. cc) (λ e. never (cc)) (λ m _ e. never (cc))
 
 err-answers : (model : Model) → answers model (Asked Err) ≡ true
 err-answers Tpg361 = sym (query-answers Tpg361 Err)
@@ -318,7 +332,7 @@ pub reply-answers : (model : Model) (p : Port) (b : ℕ) (m : Mnemonic) (w : Wor
     → answers model m ≡ true
 reply-answers model p b m w h =
     heard-event (λ (x : Event). x ≡ Reply m w → answers model m ≡ true) model p b
-    (λ e. never (cc)) (λ e. never (cc)) (λ e. told (Asked Err) (cc) (err-answers model))
+    (λ e. never (cc)) (λ _ e. never (cc)) (λ e. told (Asked Err) (cc) (err-answers model))
     (λ n s e. told n (cc) (subst (λ (s : Selection). selectionWithin model s ≡ true) s (parts model p h .selection)))
   where
     told : (n : Mnemonic) → n ≡ m → answers model n ≡ true → answers model m ≡ true

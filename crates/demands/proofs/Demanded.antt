@@ -1,0 +1,189 @@
+-- Demand 1: what every call answers, what a refusal leaves alone, and the limits that every state keeps (01, "Answer numbers of the calls").
+use Prim.Native.Nat.{ℕ, _-_, _*_}
+use mathlib.Core.Path.{_≡_, refl, ap, _∙_}
+use mathlib.Core.List.{List, [], _∷_}
+use mathlib.Core.Bool.{Bool, true, false, cond, not, _&&_, _||_}
+use mathlib.Core.Logic.{_≢_}
+use borrow.Author.Tests.{ltb-true, ltb-false, lt-leb, le-leb}
+use lib.ListN.{length, drop}
+use lib.Seq.{drop-append-seam}
+use lib.Dec.{eqb, leb, ltb}
+use Rattle.numbers.proofs.Cases.{never, cond-cases}
+use Rattle.gauges.specs.Readings.{withinLimits}
+use Rattle.gauges.specs.declared.reading.Reading.{Reading}
+use Rattle.settings.specs.Lists.{Each}
+use Rattle.settings.specs.Models.{modelOf}
+use Rattle.settings.specs.declared.model.Model.{Model}
+use Rattle.settings.specs.declared.model.Model.the-variants.{Tpg361, Tpg362}
+use Rattle.settings.specs.declared.model.Numbered.{Numbered}
+use Rattle.settings.specs.declared.model.Numbered.the-variants.{One, NoModel}
+use Rattle.lines.specs.Judging.{judged}
+use Rattle.lines.specs.declared.verdict.Verdict.{Verdict}
+use Rattle.lines.specs.declared.verdict.Verdict.the-variants.{Asks, Writes, Refused}
+use Rattle.ports.specs.Line.{held}
+use Rattle.ports.specs.declared.Event.{Event}
+use Rattle.ports.proofs.Kept.{heard-event}
+use Rattle.shared.specs.Events.{heard}
+use Rattle.shared.specs.Limits.{serialWithin}
+use Rattle.shared.specs.declared.Shared.{Shared}
+use Rattle.tpg.specs.Answers.{number, answer, handed, leastOutput}
+use Rattle.tpg.specs.States.{stateWithin, freshBox, cycled, Sound}
+use Rattle.tpg.specs.Steps.{lineText, eventText, acted, next, sent, after, over}
+use Rattle.tpg.specs.Calls.{made, freshCall, admits, turnedAway, roomed, roomedBytes, hosted, hostText, counted, tickText, ticksText, allCounted, isChannel, read, readingCall, cycleCall}
+use Rattle.tpg.specs.declared.State.{State}
+use Rattle.tpg.specs.declared.answers.Outcome.{Outcome}
+use Rattle.tpg.proofs.Refusals.{roomed-back, reading-back, cycle-back, untouched}
+use Rattle.tpg.proofs.Kept as kept
+use Rattle.demands.specs.Calls.{Call, host, reading, tick, ticks, cycle, outcome, bytes, Refusal, row, refusals, freshRefusals, firstGiven, afterCalls}
+use Rattle.demands.specs.Wire.{nak, ended}
+
+-- ---- the table
+
+-- one number is at most another where that one is not below it
+at-most : (a b : ℕ) → leb a b ≡ not (ltb b a)
+at-most a b = by (ltb b a) refl
+  where
+    by : (t : Bool) → ltb b a ≡ t → leb a b ≡ not t
+    by true e = lt-leb a b (ltb-true b a e)
+    by false e = le-leb a b (ltb-false b a e)
+
+-- the number and the count of a call are those of its rows and of the bytes that it sends
+abbrev Tabled : Outcome → List Refusal → List ℕ → Type 0
+Tabled o rows sent = (number (o .answer) ≡ firstGiven rows) × (o .written ≡ length sent)
+
+module _ (s : State) where
+  roomed-tabled : (least room : ℕ) (o : Outcome) (text : List ℕ) → o .answer ≡ answer 0 → o .written ≡ length text
+      → Tabled (roomed s least room o) (row 1 (not (stateWithin s)) ∷ row 3 (ltb room least) ∷ []) (roomedBytes s least room text)
+  unfolding roomed roomedBytes admits turnedAway
+  roomed-tabled least room o text e count = rw (at-most least room) (by (stateWithin s) (ltb room least))
+    where
+      by : (within short : Bool)
+          → Tabled (cond (within && not short) o (cond within (handed (answer 3) s) (handed (answer 1) s))) (row 1 (not within) ∷ row 3 short ∷ [])
+          (cond (within && not short) text [])
+      by false short = (refl, refl)
+      by true true = (refl, refl)
+      by true false = (ap number e, count)
+
+  reading-tabled : (channel : ℕ) (r : Reading) → Tabled (readingCall s channel r) (refusals s (reading channel r)) []
+  unfolding readingCall
+  reading-tabled channel r = by (stateWithin s) (isChannel (s .shared .model) channel) (withinLimits r)
+    where
+      by : (a b c : Bool)
+          → Tabled (cond a (cond b (cond c (handed (answer 0) (read s (channel - 1) r)) (handed (answer 5) s)) (handed (answer 4) s)) (handed (answer 1) s))
+          (row 1 (not a) ∷ row 4 (not b) ∷ row 5 (not c) ∷ []) []
+      by false b c = (refl, refl)
+      by true false c = (refl, refl)
+      by true true false = (refl, refl)
+      by true true true = (refl, refl)
+
+  cycle-tabled : Tabled (cycleCall s) (refusals s cycle) []
+  unfolding cycleCall
+  cycle-tabled = by (stateWithin s)
+    where
+      by : (a : Bool) → Tabled (cond a (handed (answer 0) (cycled s)) (handed (answer 1) s)) (row 1 (not a) ∷ []) []
+      by false = (refl, refl)
+      by true = (refl, refl)
+
+  tabled : (c : Call) → Tabled (outcome s c) (refusals s c) (bytes s c)
+  unfolding hosted counted
+  tabled (host input room) = roomed-tabled leastOutput room (hosted s input room) (hostText s input room) refl refl
+  tabled (reading channel r) = reading-tabled channel r
+  tabled (tick room) = roomed-tabled leastOutput room (counted s) (tickText s) refl refl
+  tabled (ticks n room) = roomed-tabled (leastOutput * n) room (allCounted s n) (ticksText s n) refl refl
+  tabled cycle = cycle-tabled
+
+-- every call answers with the number of the table, "Tested in the order 1 to 5"
+pub table-holds : (s : State) (c : Call) → number (outcome s c .answer) ≡ firstGiven (refusals s c)
+table-holds s c = tabled s c .0
+
+made-number : (model : Model) (serial : ℕ) → number (made (One model) serial .answer) ≡ cond (ltb 99999999 serial) 2 0
+made-number model serial = rw (at-most serial 99999999) (by (ltb 99999999 serial))
+  where
+    by : (above : Bool) → number (cond (not above) (handed (answer 0) (freshBox model serial)) (handed (answer 2) (freshBox Tpg361 0)) .answer) ≡ cond above 2 0
+    by true = refl
+    by false = refl
+
+-- and so does the call that makes a box
+pub fresh-holds : (n serial : ℕ) → number (freshCall n serial .answer) ≡ firstGiven (freshRefusals n serial)
+unfolding freshCall
+fresh-holds n serial = by (eqb n 361) (eqb n 362)
+  where
+    by : (a b : Bool) → number (made (cond a (One Tpg361) (cond b (One Tpg362) NoModel)) serial .answer) ≡ firstGiven (row 2 (not (a || b) || ltb 99999999 serial) ∷ [])
+    by true b = made-number Tpg361 serial
+    by false true = made-number Tpg362 serial
+    by false false = refl
+
+-- where it is refused, the box is "a fresh 361, serial 0"
+pub fresh-refused : (n serial : ℕ) → number (freshCall n serial .answer) ≢ 0 → freshCall n serial ≡ handed (answer 2) (freshBox Tpg361 0)
+unfolding freshCall
+fresh-refused n serial = by (modelOf n)
+  where
+    by : (m : Numbered) → number (made m serial .answer) ≢ 0 → made m serial ≡ handed (answer 2) (freshBox Tpg361 0)
+    by (One model) =
+        cond-cases (λ (o : Outcome). number (o .answer) ≢ 0 → o ≡ handed (answer 2) (freshBox Tpg361 0)) (serialWithin serial) _ _
+        (λ _ given. absurd (given refl)) (λ _ _. refl)
+    by NoModel = λ _. refl
+
+-- ---- what a refused call leaves alone, and what an accepted one writes
+
+-- a refused call hands the state back, and sends nothing
+back : (s : State) (c : Call) → number (outcome s c .answer) ≢ 0 → (outcome s c ≡ handed (outcome s c .answer) s) × (bytes s c ≡ [])
+unfolding hosted counted
+back s (host input room) = roomed-back s leastOutput room (hosted s input room) (hostText s input room) refl
+back s (reading channel r) = λ given. (reading-back s channel r given, refl)
+back s (tick room) = roomed-back s leastOutput room (counted s) (tickText s) refl
+back s (ticks n room) = roomed-back s (leastOutput * n) room (allCounted s n) (ticksText s n) refl
+back s cycle = λ given. (cycle-back s given, refl)
+
+-- "that state, counts 0", and "A refusal writes nothing into the output"
+pub call-refused : (s : State) (c : Call) (out : List ℕ) → number (outcome s c .answer) ≢ 0
+    → (outcome s c ≡ handed (outcome s c .answer) s) × (over (bytes s c) out ≡ out)
+call-refused s c out given = let b = back s c given in (b .0, rw (b .1) (untouched out))
+
+-- the bytes that a call counts as written are those that it sends
+pub call-writes : (s : State) (c : Call) → outcome s c .written ≡ length (bytes s c)
+call-writes s c = tabled s c .1
+
+-- "an accepted call writes only the bytes it counts": behind them the output is as it was
+pub call-beyond : (s : State) (c : Call) (out : List ℕ) → drop (outcome s c .written) (over (bytes s c) out) ≡ drop (outcome s c .written) out
+unfolding over
+call-beyond s c out = rw (call-writes s c) (drop-append-seam (bytes s c) (drop (length (bytes s c)) out))
+
+-- ---- what a refused line leaves alone
+
+-- a line that is answered NAK changes nothing
+nak-keeps : (s : Shared) (v : Verdict) → lineText v ≡ nak → heard s v ≡ s
+nak-keeps s (Asks m) e = refl
+nak-keeps s (Writes m r) e = never (cc)
+nak-keeps s (Refused x) e = refl
+
+-- every byte but the CR of an accepted line leaves settings, saved set, readings and switches as they were
+pub byte-keeps : (s : State) (b : ℕ) → (b ≡ 13 → sent s b ≡ nak) → next s b .shared ≡ s .shared
+unfolding next sent eventText
+byte-keeps s b =
+    heard-event (λ (e : Event). (b ≡ 13 → eventText (s .shared) e ≡ nak) → acted (s .shared) e ≡ s .shared) (s .shared .model) (s .port) b
+    (λ _. refl) (λ cr refused. nak-keeps (s .shared) (judged (s .shared .model) (held (s .port))) (refused cr)) (λ _. refl) (λ m _ _. refl)
+
+-- "A refused line leaves settings, saved set and readings as they were", over all its bytes
+pub refused-line : (s : State) (l : List ℕ) → Each (λ b. b ≢ 13) l → sent (after s l) 13 ≡ nak → after s (ended l) .shared ≡ s .shared
+unfolding after
+refused-line s [] others refused = byte-keeps s 13 (λ _. refused)
+refused-line s (b ∷ bs) others refused = refused-line (next s b) bs (others .1) refused ∙ byte-keeps s b (λ cr. absurd (others .0 cr))
+
+-- ---- the limits
+
+-- every call keeps the limits of the state
+pub call-sound : (s : State) → Sound s → (c : Call) → Sound (outcome s c .state)
+call-sound s k (host input room) = kept.host-sound s k input room
+call-sound s k (reading channel r) = kept.reading-sound s k channel r
+call-sound s k (tick room) = kept.tick-sound s k room
+call-sound s k (ticks n room) = kept.ticks-sound s k n room
+call-sound s k cycle = kept.cycle-sound s k
+
+calls-sound : (cs : List Call) (s : State) → Sound s → Sound (afterCalls s cs)
+calls-sound [] s k = k
+calls-sound (c ∷ cs) s k = calls-sound cs (outcome s c .state) (call-sound s k c)
+
+-- every state that calls can bring about from a fresh box is within the limits
+pub history-sound : (n serial : ℕ) (cs : List Call) → Sound (afterCalls (freshCall n serial .state) cs)
+history-sound n serial cs = calls-sound cs (freshCall n serial .state) (kept.fresh-call-sound n serial)

@@ -4,10 +4,10 @@ use Prim.Native.Nat.{ℕ, _<_}
 use mathlib.Core.Path.{_≡_, refl, sym, ap, ap₂, subst, _∙_}
 use mathlib.Core.List.{List, [], _∷_, _++_, map, flatMap, append-assoc}
 use mathlib.Core.Bool.{true}
-use mathlib.Core.Logic.{_≢_, _↔_}
+use mathlib.Core.Logic.{_≢_}
 use native.Mathlib.Omega.{arith}
 use lib.ListN.{take, drop}
-use Rattle.numbers.proofs.Cases.{never, and-true}
+use Rattle.numbers.proofs.Cases.{and-true}
 use Rattle.settings.specs.Models.{channels}
 use Rattle.settings.specs.Mnemonics.{sheet, name}
 use Rattle.settings.specs.Rows.{cells}
@@ -38,12 +38,12 @@ use Rattle.shared.specs.Replies.{replyText}
 use Rattle.shared.specs.declared.Shared.{Shared}
 use Rattle.shared.proofs.Kept as shared
 use Rattle.tpg.specs.States.{stateWithin, Sound}
-use Rattle.tpg.specs.Steps.{lineText, next, after, said}
+use Rattle.tpg.specs.Steps.{next, after, said}
 use Rattle.tpg.specs.declared.State.{State}
 use Rattle.tpg.proofs.Runs.{after-append, said-append}
 use Rattle.tpg.proofs.Kept.{heard-model}
-use Rattle.demands.specs.Wire.{ack, Character, Typeable, ended, asking, anew, inquiries, replies, commands, acks}
-use Rattle.demands.specs.Demands.{modelOf, settingsOf, sheetAsked, Boxes, SheetRead, linesOf, SheetCopied, Same, SheetCut, SheetsDecide}
+use Rattle.demands.specs.Wire.{ack, Character, Typeable, ended, asking, replies, acks}
+use Rattle.demands.specs.Demands.{modelOf, settingsOf, sheetAsked, Boxes, SheetRead, linesOf, SheetCopied, SheetCut, SheetsDecide}
 use Rattle.demands.proofs.Typing.{Line, line-judged, line-asked, anew-line, anew-shared, anew-said, anew-after}
 use Rattle.demands.proofs.Spelling.{Short, names-short, name-typeable, setting-characters, line-typeable, name-judged}
 

@@ -1,20 +1,18 @@
 -- Demand 2: each reply is what 01 gives, for every line and the ENQ behind it, and for every mnemonic read and written.
-use Prim.Native.Nat.{ℕ, zero, suc, _≤_, _<_}
-use mathlib.Core.Path.{_≡_, refl, sym, ap, subst, _∙_}
+use Prim.Native.Nat.{ℕ, zero, suc, _<_}
+use mathlib.Core.Path.{_≡_, refl, sym, ap, _∙_}
 use mathlib.Core.List.{List, [], _∷_, _++_}
-use mathlib.Core.Bool.{Bool, true, false, cond, _&&_}
+use mathlib.Core.Bool.{true, _&&_}
 use native.Mathlib.Omega.{arith}
 use borrow.Author.Tests.{ltb-true}
-use lib.ListN.{length, set, take}
+use lib.ListN.{set, take}
 use lib.Dec.{ltb}
 use Rattle.numbers.proofs.Cases.{never, and-true}
-use Rattle.numbers.specs.declared.threshold.Threshold.{Threshold}
 use Rattle.settings.specs.Models.{channels}
 use Rattle.settings.specs.Mnemonics.{sheet, known, name, recognised, isKnown, channelOf, hasReply, answers}
 use Rattle.settings.specs.Kinds.{factor, kinds}
-use Rattle.settings.specs.Rows.{plain, pairRow, row, listed, number, count, cells, stored}
+use Rattle.settings.specs.Rows.{plain, pairRow, row, listed, number, count}
 use Rattle.settings.specs.Lists.{Each}
-use Rattle.settings.specs.declared.model.Model.{Model}
 use Rattle.settings.specs.declared.mnemonic.Setting.{Setting}
 use Rattle.settings.specs.declared.mnemonic.Setting.the-variants.{Cal}
 use Rattle.settings.specs.declared.mnemonic.Query.{Query}
@@ -22,14 +20,13 @@ use Rattle.settings.specs.declared.mnemonic.Query.the-variants.{Sps, Pr, Prx, T
 use Rattle.settings.specs.declared.mnemonic.Mnemonic.{Mnemonic}
 use Rattle.settings.specs.declared.mnemonic.Mnemonic.the-variants.{Setting as Of, Cf, Query as Asked, Com, Sav}
 use Rattle.settings.specs.declared.rows.Row.{Row}
-use Rattle.settings.specs.declared.Settings.{Settings}
 use Rattle.settings.proofs.Lists.{each-map, each-both}
 use Rattle.settings.proofs.Places.{fits-plain, row-places}
 use Rattle.settings.proofs.Storing.{Holding, mixed-front, stored-row, factor-row}
 use Rattle.settings.proofs.Sheets.{sheet-holding, few, known-each}
 use Rattle.settings.proofs.Keeping.{Fitting, fitting-canon}
 use Rattle.lines.specs.Judging.{alone, judged}
-use Rattle.lines.specs.Replies.{texts, settingText, lineEnd}
+use Rattle.lines.specs.Replies.{settingText}
 use Rattle.lines.specs.declared.word.Word.{Word}
 use Rattle.lines.specs.declared.verdict.Verdict.{Verdict}
 use Rattle.lines.specs.declared.verdict.Verdict.the-variants.{Asks, Writes, Refused}
@@ -41,7 +38,7 @@ use Rattle.shared.specs.declared.Shared.{Shared}
 use Rattle.tpg.specs.States.{Sound}
 use Rattle.tpg.specs.Steps.{lineText, next, said}
 use Rattle.tpg.specs.declared.State.{State}
-use Rattle.demands.specs.Wire.{ack, Typeable, asking, anew, selectedText, answered, writtenText}
+use Rattle.demands.specs.Wire.{ack, asking, selectedText, answered, writtenText}
 use Rattle.demands.specs.Demands.{Answers, Reads, WritesBack, Replies}
 use Rattle.demands.proofs.Typing.{choice, gathering, enqText, line-asked, anew-line, anew-shared, anew-said}
 use Rattle.demands.proofs.Spelling.{Short, names-short, name-typeable, name-judged}

@@ -1,8 +1,8 @@
 -- The lines of a sheet can be typed: names and written numbers are characters, and few enough.
-use Prim.Native.Nat.{ℕ, _+_, _≤_, _<_}
+use Prim.Native.Nat.{ℕ, _≤_, _<_}
 use Prim.Native.Char.{code}
-use mathlib.Core.Path.{_≡_, refl, ap, _∙_}
-use mathlib.Core.List.{List, [], _∷_, _++_}
+use mathlib.Core.Path.{_≡_, refl}
+use mathlib.Core.List.{List, [], _∷_}
 use mathlib.Core.Bool.{Bool, true, _&&_}
 use native.Mathlib.Omega.{arith}
 use borrow.Author.Tests.{leb-true}
@@ -11,7 +11,7 @@ use lib.Dec.{leb}
 use Rattle.numbers.specs.declared.threshold.Threshold.{Threshold}
 use Rattle.numbers.proofs.Cases.{and-true, ranged}
 use Rattle.settings.specs.Models.{channels}
-use Rattle.settings.specs.Mnemonics.{sheet, known, name, channelOf}
+use Rattle.settings.specs.Mnemonics.{known, name, channelOf}
 use Rattle.settings.specs.Kinds.{kinds}
 use Rattle.settings.specs.Rows.{cells}
 use Rattle.settings.specs.Lists.{every, Each}
@@ -22,7 +22,6 @@ use Rattle.settings.specs.declared.mnemonic.Mnemonic.the-variants.{Setting as O
 use Rattle.settings.specs.declared.kinds.Kind.{Kind}
 use Rattle.settings.specs.declared.Settings.{Settings}
 use Rattle.settings.proofs.Lists.{each-map, each-append, every-each}
-use Rattle.settings.proofs.Sheets.{sheet-each}
 use Rattle.lines.specs.Splitting.{joined}
 use Rattle.lines.specs.Judging.{alone, withFields, judged}
 use Rattle.lines.specs.Replies.{texts, settingText}

@@ -1,12 +1,12 @@
 -- A line on the wire: its characters one by one, the CR that ends it, the ENQ behind it, and the ETX before it.
 use Prim.Native.Nat.{ℕ, _+_, _≤_, _<_}
-use mathlib.Core.Path.{_≡_, refl, sym, ap, subst, _∙_}
+use mathlib.Core.Path.{_≡_, refl, ap, subst, _∙_}
 use mathlib.Core.List.{List, [], _∷_, _++_, append-assoc, append-nil}
-use mathlib.Core.Bool.{Bool, true, false, cond, _&&_}
+use mathlib.Core.Bool.{Bool, true, false, cond}
 use native.Mathlib.Omega.{arith}
 use native.Mathlib.Numerals.{add-one}
 use borrow.Author.Tests.{lt-ltb, le-leb, ne-eqb}
-use lib.ListN.{length, set, take, length-set, length-append}
+use lib.ListN.{length, take, length-set, length-append}
 use lib.Seq.{take-suc-set}
 use lib.Dec.{eqb}
 use Rattle.settings.specs.Lists.{Each}
@@ -18,7 +18,6 @@ use Rattle.settings.specs.declared.mnemonic.Mnemonic.{Mnemonic}
 use Rattle.settings.specs.declared.mnemonic.Mnemonic.the-variants.{Setting as Of, Cf, Query as Asked, Com, Sav}
 use Rattle.settings.specs.declared.rows.Row.{Row}
 use Rattle.settings.proofs.Names.{and-no}
-use Rattle.numbers.proofs.Cases.{cond-cases}
 use Rattle.lines.specs.Words.{noError, gathered}
 use Rattle.lines.specs.Judging.{judged}
 use Rattle.lines.specs.declared.word.Word.{Word}
@@ -26,16 +25,15 @@ use Rattle.lines.specs.declared.verdict.Verdict.{Verdict}
 use Rattle.lines.specs.declared.verdict.Verdict.the-variants.{Asks, Writes, Refused}
 use Rattle.ports.specs.Line.{emptied, grown, held, isEmpty}
 use Rattle.ports.specs.Stream.{intervalOf, withStream, begun}
-use Rattle.ports.specs.Hearing.{kindOf, withMark, withChoice, selected, accepted, concluded, answered, replied, asked, byKind, heard as portHeard, isTyped, typedOne, typedAll, settled}
+use Rattle.ports.specs.Hearing.{kindOf, withMark, withChoice, selected, concluded, answered, replied, asked, byKind, heard as portHeard, isTyped, typedOne, typedAll, settled}
 use Rattle.ports.specs.declared.Port.{Port}
 use Rattle.ports.specs.declared.Selection.{Selection}
 use Rattle.ports.specs.declared.Selection.the-variants.{Nothing, Of as Chosen}
-use Rattle.ports.specs.declared.Heard.{Heard}
 use Rattle.ports.proofs.Characters.{typed-heard}
 use Rattle.shared.specs.Events.{heard}
 use Rattle.shared.specs.Replies.{replyText}
 use Rattle.shared.specs.declared.Shared.{Shared}
-use Rattle.tpg.specs.Steps.{lineText, eventText, acted, hearing, next, sent, after, said}
+use Rattle.tpg.specs.Steps.{lineText, eventText, acted, next, sent, after, said}
 use Rattle.tpg.specs.declared.State.{State}
 use Rattle.tpg.proofs.Runs.{after-append, said-append}
 use Rattle.demands.specs.Wire.{Character, Typeable, ended, asking, anew}

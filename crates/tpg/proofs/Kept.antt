@@ -1,6 +1,6 @@
 -- Every call keeps the limits of the state, and a fresh box has them.
 use Prim.Native.Nat.{ℕ, zero, suc, _-_, _*_}
-use mathlib.Core.Path.{_≡_, refl, sym, subst}
+use mathlib.Core.Path.{_≡_, refl, sym, _∙_, subst}
 use mathlib.Core.List.{List, [], _∷_}
 use mathlib.Core.Bool.{true}
 use native.Mathlib.Omega.{arith}
@@ -61,6 +61,12 @@ acted-model : (s : Shared) (e : Event) → acted s e .model ≡ s .model
 acted-model s Silent = refl
 acted-model s (Line v) = heard-model s v
 acted-model s (Reply m error) = refl
+
+-- so do bytes
+pub after-model : (bs : List ℕ) (s : State) → after s bs .shared .model ≡ s .shared .model
+unfolding after next
+after-model [] s = refl
+after-model (b ∷ bs) s = after-model bs (next s b) ∙ acted-model (s .shared) (hearing s b .event)
 
 acted-whole : (s : Shared) (e : Event) → Whole s → Whole (acted s e)
 acted-whole s Silent w = w

@@ -1,8 +1,9 @@
-pub mod Demanded
-pub mod Splitting
+pub mod Called
 pub mod Counting
 pub mod Typing
 pub mod Spelling
 pub mod Replying
 pub mod Copying
+pub mod Splitting
+pub mod Handing
 pub mod Excluded

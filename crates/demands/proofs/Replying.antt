@@ -59,7 +59,7 @@ answered-text s error (Refused x) = refl
 
 -- whatever came before: a line and an ENQ are answered by the verdict on the line
 pub line-answered : Answers said
-line-answered s l t =
+line-answered s k l t =
     let v = judged (s .shared .model) l in
     let same = anew-shared s in
     anew-said s (asking l) ∙ line-asked (next s 3) (anew-line s) l t v (ap (λ (x : Shared). judged (x .model) l) same) .0
@@ -75,14 +75,14 @@ alone-asks (Asked q) h = refl
 alone-asks Com h = never (cc)
 alone-asks Sav h = never (cc)
 
-reads : (s : State) (m : Mnemonic) → Spelt (s .shared .model) m → Short (name m) → Reads said s m
+reads : (s : State) → Sound s → (m : Mnemonic) → Spelt (s .shared .model) m → Short (name m) → Reads said s m
 unfolding answers
-reads s m sp short a =
+reads s k m sp short a =
     let model = s .shared .model in
     let b = and-true (isKnown (recognised model (name m))) (ltb (channelOf m) (channels model) && hasReply m) a .1 in
     let c = and-true (ltb (channelOf m) (channels model)) (hasReply m) b in
     let v : judged model (name m) ≡ Asks m = name-judged model m sp (ltb-true (channelOf m) (channels model) (c .0)) ∙ alone-asks m (c .1) in
-    line-answered s (name m) (name-typeable m short) ∙ ap (answered (s .shared) (s .port .error)) v ∙ rw (c .1)
+    line-answered s k (name m) (name-typeable m short) ∙ ap (answered (s .shared) (s .port .error)) v ∙ rw (c .1)
 
 -- ---- a line that writes it
 
@@ -162,12 +162,12 @@ module _ (s : State) (k : Sound s) where
   writes-back : (m : Mnemonic) → Back m → WritesBack said s m
   unfolding Back
   writes-back m b l r t e =
-      line-answered s l t ∙ ap (answered (s .shared) (s .port .error)) e ∙ ap (λ (x : List ℕ). ack ++ x) (b r (writes-fitting (s .shared .model) l m r e))
+      line-answered s k l t ∙ ap (answered (s .shared) (s .port .error)) e ∙ ap (λ (x : List ℕ). ack ++ x) (b r (writes-fitting (s .shared .model) l m r e))
 
 -- every mnemonic that the model knows, read and written, in every state that a box can be in
 pub mnemonics-answered : Replies said
 mnemonics-answered s k =
     let model = s .shared .model in
     each-both (λ (m : Mnemonic). Reads said s m) (WritesBack said s) (λ (m : Mnemonic). Reads said s m × WritesBack said s m) (λ m a b. (a, b)) (known model)
-    (each-both (Spelt model) (λ (m : Mnemonic). Short (name m)) (λ (m : Mnemonic). Reads said s m) (reads s) (known model) (all-spelt model) (names-short model))
+    (each-both (Spelt model) (λ (m : Mnemonic). Short (name m)) (λ (m : Mnemonic). Reads said s m) (reads s k) (known model) (all-spelt model) (names-short model))
     (each-map (Back s k) (WritesBack said s) (writes-back s k) (known model) (all-back s k))

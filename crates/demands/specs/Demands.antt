@@ -32,10 +32,10 @@ Becomes = State → List ℕ → State
 
 -- ---- demand 2
 
--- "Each reply is byte for byte what the mnemonics protocol and paper 01 give": for a line and an ENQ, in every state
+-- "Each reply is byte for byte what the mnemonics protocol and paper 01 give": for a line and an ENQ, in every state that a box can be in
 abbrev pub Answers : Says → Type 0
 Answers says =
-    (s : State) (l : List ℕ) → Typeable l → says s (anew (asking l)) ≡ answered (s .shared) (s .port .error) (judged (s .shared .model) l)
+    (s : State) → Sound s → (l : List ℕ) → Typeable l → says s (anew (asking l)) ≡ answered (s .shared) (s .port .error) (judged (s .shared .model) l)
 
 -- a mnemonic that the model answers is read
 abbrev pub Reads : Says → State → Mnemonic → Type 0
@@ -99,6 +99,15 @@ SheetCut becomes =
 -- "two such boxes give equal sheets exactly when their settings are equal"
 abbrev pub SheetsDecide : Says → Type 0
 SheetsDecide says = (a b : State) → Boxes a b → (says a (sheetAsked a) ≡ says b (sheetAsked b)) ↔ (settingsOf a ≡ settingsOf b)
+
+-- demands 2 and 3 together
+pub record Meets (says : Says) (becomes : Becomes) : Type 0 where
+  pub answers : Answers says
+  pub replies : Replies says
+  pub read : SheetRead says becomes
+  pub copied : SheetCopied says becomes
+  pub cut : SheetCut becomes
+  pub decide : SheetsDecide says
 
 -- ---- the counts
 

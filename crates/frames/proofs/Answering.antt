@@ -32,7 +32,7 @@ and-false : (t u : Bool) → u ≡ false → t && u ≡ false
 and-false true u e = e
 and-false false u e = refl
 
-too-many : (s : State) (f : List ℕ) → longestFrame < length f → framed s f ≡ noFrame s
+pub too-many : (s : State) (f : List ℕ) → longestFrame < length f → framed s f ≡ noFrame s
 unfolding framed
 too-many s f h =
     let first = getD f 0 0 in

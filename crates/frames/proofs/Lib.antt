@@ -6,3 +6,4 @@ pub mod Digits
 pub mod Forms
 pub mod Answering
 pub mod Kept
+pub mod Instances

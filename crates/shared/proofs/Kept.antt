@@ -99,7 +99,7 @@ starts-agree model a = or-right (leb 2 a) (Bool·beq (startsOn model a) (startsO
     self false = refl
 
 -- one of the four
-four-at : (f : ℕ → Bool) (i : ℕ) → i ≤ 3 → getD (eachFour f) i false ≡ f i
+pub four-at : (f : ℕ → Bool) (i : ℕ) → i ≤ 3 → getD (eachFour f) i false ≡ f i
 four-at f i h = sym (tabled f 4 (eachFour f) refl i false (omega arith))
 
 module _ (model : Model) (serial : ℕ) (saved : Settings) where

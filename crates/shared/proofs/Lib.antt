@@ -1,3 +1,4 @@
 pub mod Channels
 pub mod Lengths
 pub mod Kept
+pub mod Instances

@@ -3,6 +3,7 @@ pub mod Sending
 pub mod Runs
 pub mod Ticking
 pub mod Deciding
+pub mod Instances
 pub mod Refusals
 pub mod Counts
 pub mod Kept

@@ -2,7 +2,7 @@
 use Prim.Native.Nat.{ℕ, _+_, _≤_, _<_}
 use mathlib.Core.Path.{_≡_, refl, ap, subst, _∙_}
 use mathlib.Core.List.{List, [], _∷_, _++_, append-assoc, append-nil}
-use mathlib.Core.Bool.{Bool, true, false, cond}
+use mathlib.Core.Bool.{Bool, true, false, cond, and-false}
 use native.Mathlib.Omega.{arith}
 use native.Mathlib.Numerals.{add-one}
 use borrow.Author.Tests.{lt-ltb, le-leb, ne-eqb}
@@ -17,7 +17,6 @@ use Rattle.settings.specs.declared.mnemonic.Query.the-variants.{Err}
 use Rattle.settings.specs.declared.mnemonic.Mnemonic.{Mnemonic}
 use Rattle.settings.specs.declared.mnemonic.Mnemonic.the-variants.{Setting as Of, Cf, Query as Asked, Com, Sav}
 use Rattle.settings.specs.declared.rows.Row.{Row}
-use Rattle.settings.proofs.Names.{and-no}
 use Rattle.lines.specs.Words.{noError, gathered}
 use Rattle.lines.specs.Judging.{judged}
 use Rattle.lines.specs.declared.word.Word.{Word}
@@ -134,7 +133,7 @@ concluded-line {p} {selection} {error} h (Refused x) =
 -- straight after a CR or not, it is no LF
 no-lf : (model : Model) (p : Port) (b : ℕ) → eqb b 10 ≡ false → portHeard model p b ≡ byKind model (kindOf b) (settled p) b
 unfolding portHeard
-no-lf model p b e = rw (e, and-no (p .ended))
+no-lf model p b e = rw (e, and-false (p .ended))
 
 -- what a line comes to: what is sent, what all share, and the port with an empty line again
 pub record Judged (s : Shared) (error : Word) (v : Verdict) (bytes : List ℕ) (next : State) : Type 0 where

@@ -2,7 +2,7 @@
 use Prim.Native.Nat.{ℕ, _≤_, _<_}
 use mathlib.Core.Path.{_≡_, refl, sym}
 use mathlib.Core.List.{List, [], _∷_}
-use mathlib.Core.Bool.{true, false, _&&_}
+use mathlib.Core.Bool.{true, false, _&&_, and-true, and-false}
 use mathlib.Core.Logic.{⊎-elim}
 use native.Mathlib.Omega.{arith}
 use borrow.Author.Tests.{lt-ltb, le-ltb}
@@ -23,7 +23,7 @@ use Rattle.settings.specs.declared.mnemonic.Query.the-variants.{Sps, Pr,
 use Rattle.settings.specs.declared.mnemonic.Mnemonic.{Mnemonic}
 use Rattle.settings.specs.declared.mnemonic.Mnemonic.the-variants.{Setting as Of, Cf, Query as Asked}
 use Rattle.settings.proofs.Lists.{each-map, every-each}
-use Rattle.settings.proofs.Names.{and-end, and-no, not-three}
+use Rattle.settings.proofs.Names.{not-three}
 
 -- ---- settings by their numbers
 
@@ -53,7 +53,7 @@ channelled : (model : Model) (f : ℕ → Mnemonic) → listed (λ (k : ℕ). is
     → (k : ℕ) → ltb k (channels model) ≡ isKnown (recognised model (name (f k))) && (ltb k (channels model) && true)
 channelled model f t k =
     ⊎-elim (λ (l : k < channels model). rw (lt-ltb k (channels model) l, everywhere (λ (j : ℕ). isKnown (recognised model (name (f j)))) 2 t k (two model l)))
-    (λ (g : channels model ≤ k). rw (le-ltb k (channels model) g) (sym (and-no (isKnown (recognised model (name (f k))))))) (below k (channels model))
+    (λ (g : channels model ≤ k). rw (le-ltb k (channels model) g) (sym (and-false (isKnown (recognised model (name (f k))))))) (below k (channels model))
   where
     two : (model : Model) → k < channels model → k < 2
     two Tpg361 l = omega arith
@@ -74,12 +74,12 @@ query-answers model Err = channelled model (λ (k : ℕ). Asked Err) refl 0
 
 pub setting-answers : (model : Model) (x : Setting) → isKnown (recognised model (name (Of x))) ≡ answers model (Of x)
 unfolding answers
-setting-answers Tpg361 x = and-end (isKnown (recognised Tpg361 (name (Of x))))
-setting-answers Tpg362 x = and-end (isKnown (recognised Tpg362 (name (Of x))))
+setting-answers Tpg361 x = sym (and-true (isKnown (recognised Tpg361 (name (Of x)))))
+setting-answers Tpg362 x = sym (and-true (isKnown (recognised Tpg362 (name (Of x)))))
 
 pub no-answer : (model : Model) (m : Mnemonic) → hasReply m ≡ false → false ≡ answers model m
 unfolding answers
-no-answer model m e = rw (e, and-no (ltb (channelOf m) (channels model))) (sym (and-no (isKnown (recognised model (name m)))))
+no-answer model m e = rw (e, and-false (ltb (channelOf m) (channels model))) (sym (and-false (isKnown (recognised model (name m)))))
 
 -- ---- what is known, there and has a reply
 

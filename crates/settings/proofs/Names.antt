@@ -2,7 +2,7 @@
 use Prim.Native.Nat.{ℕ, zero, suc, _+_, _*_, _-_, _≤_, _<_}
 use mathlib.Core.Path.{_≡_, refl, sym, ap, _∙_}
 use mathlib.Core.List.{List, [], _∷_, _++_, map}
-use mathlib.Core.Bool.{Bool, true, false, _&&_}
+use mathlib.Core.Bool.{Bool, true, false, _&&_, and-true as and-end, and-false}
 use native.Mathlib.Omega.{arith}
 use native.Mathlib.Numerals.{add-one}
 use lib.ListN.{length, getD, drop, drop-of-length-le, List·getD-append, List·getD-map}
@@ -49,15 +49,11 @@ spelling model i h =
     tabled (λ i. getD letters (i * 3) 0 ∷ getD letters (i * 3 + 1) 0 ∷ getD letters (i * 3 + 2) 0 ∷ []) 28 (map name (known model)) refl i (name (Of Uni)) h
     ∙ List·getD-map name (known model) i (Of Uni)
 
-pub and-end : (t : Bool) → t ≡ t && true
-and-end true = refl
-and-end false = refl
-
 pub spelt : (model : Model) (i : ℕ) → i < 28 → (a b c : ℕ)
     → eqb (getD letters (i * 3) 0) a && (eqb (getD letters (i * 3 + 1) 0) b && eqb (getD letters (i * 3 + 2) 0) c) ≡ same (name (knownAt model i)) (a ∷ b ∷ c ∷ [])
 unfolding same
 spelt model i h a b c =
-    ap (λ (t : Bool). eqb (getD letters (i * 3) 0) a && (eqb (getD letters (i * 3 + 1) 0) b && t)) (and-end (eqb (getD letters (i * 3 + 2) 0) c))
+    ap (λ (t : Bool). eqb (getD letters (i * 3) 0) a && (eqb (getD letters (i * 3 + 1) 0) b && t)) (sym (and-end (eqb (getD letters (i * 3 + 2) 0) c)))
     ∙ ap (λ (n : List ℕ). same n (a ∷ b ∷ c ∷ [])) (spelling model i h)
 
 -- ---- the search
@@ -81,16 +77,12 @@ known-length model = refl
 
 -- ---- a word of another length names nothing
 
-pub and-no : (t : Bool) → t && false ≡ false
-and-no true = refl
-and-no false = refl
-
 unlike : (s w : List ℕ) → (length s ≡ length w → ⊥) → same s w ≡ false
 unfolding same
 unlike [] [] h = absurd (h refl)
 unlike [] (b ∷ w) h = refl
 unlike (a ∷ s) [] h = refl
-unlike (a ∷ s) (b ∷ w) h = rw (unlike s w (λ e. h (ap suc e))) (and-no (eqb a b))
+unlike (a ∷ s) (b ∷ w) h = rw (unlike s w (λ e. h (ap suc e))) (and-false (eqb a b))
 
 three : (model : Model) → every (λ m. eqb (length (name m)) 3) (known model) ≡ true
 unfolding known every

@@ -38,9 +38,9 @@ unfolding freshCall
 fresh-made n serial model e h = rw (e, le-leb serial 99999999 h)
 
 -- whatever the model that was asked for
-pub fresh-refused : (n serial : ℕ) → 99999999 < serial → freshCall n serial ≡ handed (answer 2) (freshBox Tpg361 0)
+pub serial-refused : (n serial : ℕ) → 99999999 < serial → freshCall n serial ≡ handed (answer 2) (freshBox Tpg361 0)
 unfolding freshCall
-fresh-refused n serial h = by (modelOf n)
+serial-refused n serial h = by (modelOf n)
   where
     by : (m : Numbered) → made m serial ≡ handed (answer 2) (freshBox Tpg361 0)
     by (One model) = rw (lt-leb serial 99999999 h)

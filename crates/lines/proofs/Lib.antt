@@ -7,3 +7,4 @@ pub mod Answered
 pub mod Worded
 pub mod Rows
 pub mod Copy
+pub mod Instances

@@ -6,3 +6,4 @@ pub mod Nearest
 pub mod Scaling
 pub mod Stops
 pub mod Order
+pub mod Instances

@@ -5,3 +5,4 @@ pub mod Judging
 pub mod Stops
 pub mod RoundTrip
 pub mod Rows
+pub mod Instances

@@ -6,3 +6,4 @@ pub mod Places
 pub mod Storing
 pub mod Sheets
 pub mod Keeping
+pub mod Instances

@@ -1,0 +1,29 @@
+-- What the definitions give where docs/PROMISES.md names a wrong answer.
+use mathlib.Core.Path.{_≡_, refl}
+use mathlib.Core.Bool.{true, false}
+use mathlib.Core.List.{[], _∷_, map}
+use Rattle.text.specs.Text.{ascii, put, puts}
+use Rattle.text.specs.Digits.{bare}
+use Rattle.text.specs.declared.Text.{Text}
+use Rattle.settings.specs.Models.{defaults}
+use Rattle.settings.specs.declared.model.Model.{Model}
+use Rattle.settings.specs.declared.model.Model.the-variants.{Tpg361, Tpg362}
+use Rattle.lines.specs.Replies.{settingText, factorsText, lineEnd}
+use Rattle.lines.specs.Words.{digit, wordText, noError, gathered}
+use Rattle.lines.specs.declared.verdict.Fault.the-variants.{Syntax, Hardware}
+
+-- "answers one per channel"
+pub default-factors : map (λ (m : Model). factorsText m (defaults m)) (Tpg361 ∷ Tpg362 ∷ []) ≡ ascii "1.000" ∷ ascii "1.000,1.000" ∷ []
+unfolding bare settingText
+default-factors = refl
+
+-- CR, then LF
+pub line-ends : (t : Text) → puts t lineEnd ≡ put (put t 13) 10
+line-ends t = refl
+
+pub digits-are : map digit (true ∷ false ∷ []) ≡ ascii "10"
+digits-are = refl
+
+-- no hardware, then syntax
+pub digits-gather : wordText (gathered (gathered noError Hardware) Syntax) ≡ ascii "0101"
+digits-gather = refl

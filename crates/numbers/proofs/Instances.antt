@@ -1,0 +1,51 @@
+-- What the definitions give where docs/PROMISES.md names a wrong answer.
+use Prim.Native.Nat.{ℕ}
+use mathlib.Core.Path.{_≡_, refl}
+use mathlib.Core.Bool.{true, false}
+use mathlib.Core.List.{List, [], _∷_, map}
+use lib.IntN.{ℤ, pos, negsuc, natAbs}
+use Rattle.numbers.specs.Numbers.{withinStops, isFive, isZero, isNumber, less, isBelow}
+use Rattle.numbers.specs.Rounding.{isUsable}
+use Rattle.numbers.specs.declared.threshold.Threshold.{Threshold}
+use Rattle.numbers.specs.declared.value.Value.{Value}
+use Rattle.numbers.specs.declared.value.Ratio.{Ratio}
+
+abbrev threshold : ℕ → ℤ → Threshold
+threshold m e = record { mantissa = m; exponent = e }
+
+abbrev value : ℤ → ℤ → Value
+value m e = record { mantissa = m; exponent = e }
+
+abbrev ratio : ℕ → ℕ → Ratio
+ratio n d = record { over = n; under = d }
+
+-- "1.0000E-20 to 9.9999E+20": both ends, and the number beside each
+pub end-stops : map withinStops (threshold 10000 (negsuc 19) ∷ threshold 99999 (pos 20) ∷ threshold 99999 (negsuc 20) ∷ threshold 10000 (pos 21) ∷ []) ≡ true ∷ true ∷ false ∷ false ∷ []
+end-stops = refl
+
+-- 0, zero with an exponent, 1.0000
+abbrev few : List Value
+few = value (pos 0) (pos 0) ∷ value (pos 0) (pos 1) ∷ value (pos 10000) (pos 0) ∷ []
+
+pub zero-alone : map isZero few ≡ true ∷ false ∷ false ∷ []
+zero-alone = refl
+
+pub zero-or-five : map isNumber few ≡ true ∷ false ∷ true ∷ []
+zero-or-five = refl
+
+-- six digits, an exponent of 100, -9.9999E-99
+pub five-alone : map isFive (value (pos 100000) (pos 0) ∷ value (pos 10000) (pos 100) ∷ value (negsuc 99998) (negsuc 98) ∷ []) ≡ false ∷ false ∷ true ∷ []
+five-alone = refl
+
+-- 2.0000 beside 1.0000
+pub two-not-below : isBelow (value (pos 20000) (pos 0)) (threshold 10000 (pos 0)) ≡ false
+unfolding less isBelow
+two-not-below = refl
+
+-- a part of 0, a part of 10^13, and two parts of 10^12
+pub ratio-parts : map isUsable (ratio 0 1 ∷ ratio 1 0 ∷ ratio 10000000000000 1 ∷ ratio 1 10000000000000 ∷ ratio 1000000000000 1000000000000 ∷ []) ≡ false ∷ false ∷ false ∷ false ∷ true ∷ []
+ratio-parts = refl
+
+-- 7, -7 and the least number of 32 bits
+pub magnitudes : map natAbs (pos 7 ∷ negsuc 6 ∷ negsuc 2147483647 ∷ []) ≡ 7 ∷ 7 ∷ 2147483648 ∷ []
+magnitudes = refl

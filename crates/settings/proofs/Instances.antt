@@ -1,0 +1,91 @@
+-- What the definitions give where docs/PROMISES.md names a wrong answer.
+use Prim.Native.Nat.{ℕ}
+use Prim.Native.String.{String}
+use mathlib.Core.Path.{_≡_, refl}
+use mathlib.Core.Bool.{true, false}
+use mathlib.Core.List.{List, [], _∷_, map}
+use lib.IntN.{negsuc}
+use lib.ListN.{drop, replicate}
+use Rattle.text.specs.Text.{ascii}
+use Rattle.text.proofs.Tables.{listed as table}
+use Rattle.numbers.specs.declared.threshold.Threshold.{Threshold}
+use Rattle.settings.specs.Lists.{every}
+use Rattle.settings.specs.Models.{modelOf, channels, names, powerOnMode, startsOn, follows, agrees, defaults}
+use Rattle.settings.specs.Mnemonics.{sheet, sheetAt, settingName, known, same, found, recognised, channelOf, isErr}
+use Rattle.settings.specs.Kinds.{storedKinds}
+use Rattle.settings.specs.Rows.{pairRow, row, listed, number, withFilters}
+use Rattle.settings.specs.Limits.{within}
+use Rattle.settings.specs.declared.model.Model.{Model}
+use Rattle.settings.specs.declared.model.Model.the-variants.{Tpg361, Tpg362}
+use Rattle.settings.specs.declared.model.Numbered.the-variants.{One, NoModel}
+use Rattle.settings.specs.declared.mnemonic.Setting.{Setting}
+use Rattle.settings.specs.declared.mnemonic.Setting.the-variants.{Sp}
+use Rattle.settings.specs.declared.mnemonic.Query.the-variants.{Pr, Ayt, Err}
+use Rattle.settings.specs.declared.mnemonic.Named.the-variants.{Known, Unknown}
+use Rattle.settings.specs.declared.mnemonic.Mnemonic.the-variants.{Cf, Query as Asked, Sav}
+
+-- ---- models
+
+abbrev models : List Model
+models = Tpg361 ∷ Tpg362 ∷ []
+
+pub model-numbers : map modelOf (361 ∷ 362 ∷ 363 ∷ []) ≡ One Tpg361 ∷ One Tpg362 ∷ NoModel ∷ []
+model-numbers = refl
+
+pub model-channels : map channels models ≡ 1 ∷ 2 ∷ []
+model-channels = refl
+
+pub model-names : map names models ≡ map ascii ("TPG361,PTG28040" ∷ "TPG362,PTG28290" ∷ [])
+model-names = refl
+
+pub model-modes : map powerOnMode models ≡ 1 ∷ 1 ∷ []
+model-modes = refl
+
+-- the assignments 0 to 3
+module _ (model : Model) where
+  pub on-at-first : table (startsOn model) 4 0 ≡ false ∷ true ∷ false ∷ false ∷ []
+  on-at-first = refl
+
+  pub with-channel-one : table (λ (a : ℕ). follows model a 0) 4 0 ≡ false ∷ false ∷ true ∷ false ∷ []
+  with-channel-one = refl
+
+  pub found-off : table (λ (a : ℕ). agrees model a false) 4 0 ≡ true ∷ false ∷ true ∷ true ∷ []
+  found-off = refl
+
+  pub found-on : table (λ (a : ℕ). agrees model a true) 4 0 ≡ false ∷ true ∷ true ∷ true ∷ []
+  found-on = refl
+
+-- ---- mnemonics
+
+-- the lines of the sheet, and one past the last
+pub sheet-names : (model : Model) → table (λ (i : ℕ). settingName (sheetAt model i)) 18 0 ≡ map ascii ("UNI" ∷ "FIL" ∷ "CAL" ∷ "DCD" ∷ "SP1" ∷ "SP2" ∷ "SP3" ∷ "SP4" ∷ "ERA" ∷ "EVA" ∷ "FMT" ∷ "LNG" ∷ "NAD" ∷ "PRE" ∷ "PRO" ∷ "PUC" ∷ "DCS" ∷ "UNI" ∷ [])
+sheet-names model = refl
+
+pub words : (model : Model) → map (λ (w : String). recognised model (ascii w)) ("PR1" ∷ "PR2" ∷ "ERR" ∷ "SAV" ∷ "SAW" ∷ []) ≡ Known (Asked (Pr 0)) ∷ Known (Asked (Pr 1)) ∷ Known (Asked Err) ∷ Known Sav ∷ Unknown ∷ []
+unfolding known same found recognised
+words model = refl
+
+pub err-alone : map isErr (Asked Err ∷ Asked Ayt ∷ []) ≡ true ∷ false ∷ []
+err-alone = refl
+
+-- PR2 and CF2, the channels counted from 0
+pub second-channel : map channelOf (Asked (Pr 1) ∷ Cf 1 ∷ []) ≡ 1 ∷ 1 ∷ []
+second-channel = refl
+
+-- ---- settings
+
+-- the first cell of each line of the sheet
+pub default-numbers : (model : Model) → map (λ (x : Setting). number (row (defaults model) x)) (sheet model) ≡ 4 ∷ 2 ∷ 1000 ∷ 0 ∷ 0 ∷ 0 ∷ 0 ∷ 0 ∷ 0 ∷ 0 ∷ 0 ∷ 0 ∷ 1 ∷ 0 ∷ 0 ∷ 0 ∷ 0 ∷ []
+default-numbers model = refl
+
+-- lower and upper of each switching function
+pub default-thresholds : (model : Model) → table (λ (k : ℕ). drop 1 (listed (row (defaults model) (Sp k)))) 4 0 ≡ replicate 4 (record { mantissa = 10000; exponent = negsuc 8 } ∷ record { mantissa = 90000; exponent = negsuc 6 } ∷ [])
+default-thresholds model = refl
+
+pub pair-numbers : (a b : ℕ) → map (λ (c : Threshold). c .mantissa) (listed (pairRow a b)) ≡ a ∷ b ∷ 0 ∷ []
+pair-numbers a b = refl
+
+-- the filter of channel 2 set to 3
+pub second-filter : map (λ (m : Model). within m (withFilters (defaults m) (2 ∷ 3 ∷ []))) models ≡ false ∷ true ∷ []
+unfolding every storedKinds within
+second-filter = refl

@@ -7,3 +7,4 @@ pub mod Copying
 pub mod Splitting
 pub mod Handing
 pub mod Excluded
+pub mod Rows

@@ -1,4 +1,4 @@
--- The rows of 01 that are lines, as one statement over a list of them; and a reply of CF1 sent back is refused.
+-- Lines and the verdicts on them, as one statement over a list; and a reply of CF1 sent back is refused.
 use Prim.Native.Nat.{ℕ, zero, suc, _<_}
 use Prim.Native.Char.{code}
 use Prim.Native.String.{String}
@@ -10,9 +10,8 @@ use Rattle.text.specs.Text.{ascii}
 use Rattle.text.specs.Digits.{dig, bare}
 use Rattle.numbers.specs.Rounding.{climbWithin, five, power, rounded, fittedTo}
 use Rattle.numerals.specs.Digits.{lead, rest, headIs, value}
-use Rattle.numerals.specs.Whole.{numeralFault, numberOf, behindPoint, factorOf}
+use Rattle.numerals.specs.Whole.{numeralFault, numberOf}
 use Rattle.numerals.specs.Threshold.{thresholdFault, afterPlus, afterSign, powerOf, judged as judgedNumeral, fraction, afterFraction, thresholdOf}
-use Rattle.numerals.specs.Writing.{scientific}
 use Rattle.numerals.specs.declared.whole.Numeral.the-variants.{Malformed as NoNumber}
 use Rattle.numerals.specs.declared.threshold.ThresholdNumeral.{ThresholdNumeral}
 use Rattle.numerals.specs.declared.threshold.ThresholdNumeral.the-variants.{Within, Malformed as NoThreshold, OutOfRange}
@@ -54,14 +53,8 @@ on model s t = record { model = model; sent = s; said = t }
 
 abbrev pub lines : List Line
 lines =
-    -- the starred rows
-    on Tpg362 "CAL,0.099,1" "0010"
-    ∷ on Tpg362 "CAL,0.1,10" "writes CAL,0.100,10.000"
-    ∷ on Tpg362 "FIL,,2" "0001"
-    ∷ on Tpg362 "FIL,4,2" "0010"
-    ∷ on Tpg362 "FIL,4," "0001"
     -- readings of the manual that are wrong: nothing is stored of a line with a fault
-    ∷ on Tpg362 "SP1,2,1E-3," "0001"
+    on Tpg362 "SP1,2,1E-3," "0001"
     -- what needs channel 2 on a 361
     ∷ on Tpg361 "ERA,3" "0100"
     ∷ on Tpg361 "CF2" "0100"
@@ -93,7 +86,7 @@ abbrev pub expected : List Line → List (List ℕ)
 expected = map (λ (l : Line). ascii (l .said))
 
 pub lines-hold : answers lines ≡ expected lines
-unfolding bare climbWithin five power rounded fittedTo lead rest headIs value numberOf behindPoint factorOf afterPlus afterSign powerOf judgedNumeral fraction afterFraction thresholdOf scientific known same found recognised storedKinds fields limited readings formed valued withFields judged
+unfolding bare climbWithin five power rounded fittedTo lead rest headIs value numberOf afterPlus afterSign powerOf judgedNumeral fraction afterFraction thresholdOf known same found recognised storedKinds fields limited readings formed valued withFields judged
 lines-hold = refl
 
 -- ---- the error word of a field

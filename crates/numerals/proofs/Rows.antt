@@ -1,8 +1,8 @@
--- The starred threshold and factor rows of 01, "Lines on either side", as one statement over a list of them.
+-- What 01 leaves to be decided about the form of a number (docs/DECISIONS.md, 1 to 5), as one statement over a list.
 use Prim.Native.Nat.{ℕ}
 use Prim.Native.String.{String}
 use mathlib.Core.Path.{_≡_, refl}
-use mathlib.Core.List.{List, [], _∷_, _++_, map}
+use mathlib.Core.List.{List, [], _∷_, map}
 use Rattle.text.specs.Text.{ascii}
 use Rattle.text.specs.Digits.{dig, bare, factorText}
 use Rattle.numerals.specs.Writing.{scientific, thresholdText}
@@ -43,27 +43,6 @@ row k s t = record { kind = k; sent = s; said = t }
 
 abbrev pub rows : List Row
 rows =
-    row threshold "6.80E-3" "6.8000E-03"
-    ∷ row threshold "123456" "1.2346E+05"
-    ∷ row threshold "999994" "9.9999E+05"
-    ∷ row threshold "999995" "1.0000E+06"
-    ∷ row threshold "9.99995E-21" "1.0000E-20"
-    ∷ row threshold "9.9999E-21" "0010"
-    ∷ row threshold "9.99994E20" "9.9999E+20"
-    ∷ row threshold "9.99995E20" "0010"
-    ∷ row threshold "0.0" "0010"
-    ∷ row threshold "." "0001"
-    ∷ row threshold "5." "5.0000E+00"
-    -- the setting's own limits, 0.100 to 10.000, refuse 0.099 on the floor above
-    ∷ row factor "0.099" "0.099"
-    ∷ row factor "1" "1.000"
-    ∷ row factor "0.1" "0.100"
-    ∷ row factor "10" "10.000"
-    ∷ []
-
--- what 01 leaves to be decided about the form of a number (docs/DECISIONS.md, 1 to 4)
-abbrev pub decided : List Row
-decided =
     row threshold "000000000012" "1.2000E+01"
     ∷ row threshold "0000000000012" "0001"
     ∷ row threshold "+.5E+0" "5.0000E-01"
@@ -83,14 +62,10 @@ decided =
     ∷ row factor "1.0000" "0001"
     ∷ row factor "100" "0001"
     ∷ row factor "+1" "0001"
+    -- the setting's own limits, 0.100 to 10.000, refuse it on the floor above
+    ∷ row factor "0.099" "0.099"
     ∷ []
 
-abbrev pub answers : List Row → List (List ℕ)
-answers = map (λ (r : Row). says (r .kind) (ascii (r .sent)))
-
-abbrev pub expected : List Row → List (List ℕ)
-expected = map (λ (r : Row). ascii (r .said))
-
-pub rows-hold : answers (rows ++ decided) ≡ expected (rows ++ decided)
+pub rows-hold : map (λ (r : Row). says (r .kind) (ascii (r .sent))) rows ≡ map (λ (r : Row). ascii (r .said)) rows
 unfolding bare scientific climbWithin five power rounded fittedTo lead rest headIs value numberOf behindPoint factorOf afterPlus afterSign powerOf judged fraction afterFraction thresholdOf
 rows-hold = refl

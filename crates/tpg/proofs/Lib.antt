@@ -7,4 +7,3 @@ pub mod Instances
 pub mod Refusals
 pub mod Counts
 pub mod Kept
-pub mod Rows

@@ -1,5 +1,4 @@
 pub mod Gathering
-pub mod Ranges
 pub mod Kept
 pub mod Characters
 pub mod Instances

@@ -4,8 +4,7 @@ use mathlib.Core.Path.{_≡_, refl, sym, ap, _∙_}
 use mathlib.Core.List.{List, [], _∷_, _++_}
 use mathlib.Core.Bool.{Bool, _&&_, and-true, and-assoc}
 use native.Mathlib.Omega.{arith}
-use native.Mathlib.Numerals.{add-one}
-use lib.ListN.{length, getD, take, drop, drop-of-length-le}
+use lib.ListN.{getD, take, drop, drop-of-length-le}
 use lib.Seq.{drop-cons}
 use Rattle.text.proofs.Tables.{tabled}
 use Rattle.settings.specs.Mnemonics.{sheet}
@@ -42,17 +41,7 @@ pub stored-past : (model : Model) (k : ℕ) → 9 ≤ k → storedKinds model k 
 unfolding storedKinds
 stored-past model k h = ap (take 1) (drop-of-length-le (storedTable model) h)
 
--- the test over a list, member by member, beside what was found of those before
-module _ {A : Type 0} (p : A → Bool) (d : A) (xs : List A) (i : ℕ) (all : Bool) where
-  pub every-next : i < length xs → all && p (getD xs i d) && every p (drop (i + 1) xs) ≡ all && every p (drop i xs)
-  unfolding every
-  every-next h = rw (add-one i, drop-cons xs i d h) (and-assoc all (p (getD xs i d)) (every p (drop (suc i) xs)))
-
-  pub every-end : length xs ≤ i → all && every p (drop i xs) ≡ all
-  unfolding every
-  every-end h = rw (drop-of-length-le xs h) (and-true all)
-
--- and four at once
+-- the test over four at once
 pub every-four : {A : Type 0} (p : A → Bool) (a b c d : A) → p a && (p b && (p c && p d)) ≡ every p (a ∷ b ∷ c ∷ d ∷ [])
 unfolding every
 every-four p a b c d = ap (λ (t : Bool). p a && (p b && (p c && t))) (sym (and-true (p d)))

@@ -4,8 +4,8 @@ use mathlib.Core.Path.{_≡_, refl, sym, _∙_}
 use mathlib.Core.Bool.{_&&_}
 use lib.ListN.{length, take, drop}
 use Rattle.settings.specs.Lists.{every}
+use Rattle.settings.proofs.Ranges.{next, end}
 use Rattle.ports.specs.Limits.{inRange}
-use Rattle.ports.proofs.Ranges.{next, end}
 use borrow.Author.Needs.{needs}
 use native.Mathlib.Omega.{arith}
 use Rattle.ports.proofs.limits.all_within.Statement.{statement}
@@ -34,13 +34,13 @@ loop-again c =
     let a = c .before .before .args in
     let l = c .before .loop in
     let n : length (a .t1) ≡ 80 = search needs in
-    next (inRange (a .low) (a .high)) (a .t1) (l .i) (a .b) (l .all) (c .loop-test .taken) (omega arith) ∙ l .inv
+    next (inRange (a .low) (a .high)) 0 (a .t1) (l .i) (a .b) (l .all) (c .loop-test .taken) (omega arith) ∙ l .inv
 
 returns : tie.Need-returns Inv-loop μ-loop
 returns c =
     let a = c .before .before .args in
     let l = c .before .loop in
-    sym (end (inRange (a .low) (a .high)) (a .t1) (l .i) (a .b) (l .all) (c .loop-test .left)) ∙ l .inv
+    sym (end (inRange (a .low) (a .high)) 0 (a .t1) (l .i) (a .b) (l .all) (c .loop-test .left)) ∙ l .inv
 
 pub all-within-spec : {M : Type 1} → statement M
 all-within-spec =

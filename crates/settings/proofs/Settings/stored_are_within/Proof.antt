@@ -2,19 +2,20 @@
 use Prim.Native.Nat.{_≤_, _-_}
 use mathlib.Core.Path.{_≡_, refl, sym, _∙_}
 use mathlib.Core.Bool.{_&&_}
-use lib.ListN.{getD, drop}
+use lib.ListN.{getD, take, drop}
 use Rattle.settings.specs.Lists.{every}
 use Rattle.settings.specs.Mnemonics.{sheet}
 use Rattle.settings.specs.Limits.{rowWithin}
 use Rattle.settings.specs.declared.mnemonic.Setting.the-variants.{Uni}
-use Rattle.settings.proofs.Tabled.{every-next, every-end, stored-line}
+use Rattle.settings.proofs.Tabled.{stored-line}
+use Rattle.settings.proofs.Ranges.{next, end}
 use native.Mathlib.Omega.{arith}
 use borrow.Author.Needs.{needs}
 use Rattle.settings.proofs.Settings.stored_are_within.Statement.{statement}
 use Rattle.settings.proofs.Settings.stored_are_within.Tie as tie
 
 abbrev Inv-loop : tie.InvT-loop
-Inv-loop model self d all₀ k₀ all k = (k ≤ 9) × (all && every (rowWithin model self) (drop k (drop 8 (sheet model))) ≡ every (rowWithin model self) (drop 8 (sheet model)))
+Inv-loop model self d all₀ k₀ all k = (k ≤ 9) × (all && every (rowWithin model self) (take (9 - k) (drop k (drop 8 (sheet model)))) ≡ every (rowWithin model self) (drop 8 (sheet model)))
 
 abbrev μ-loop : tie.MeasureT-loop
 μ-loop model self d all₀ k₀ all k = 9 - k
@@ -61,13 +62,13 @@ loop-again c =
     let tested : c .pair-is-within .result ≡ p (getD (drop 8 (sheet (a .model))) (l .k) Uni) =
     c .pair-is-within .ensures
     ∙ rw (c .before .before .before .stored-kinds .ensures, test .before .before .defaults .ensures, ← stored-line (a .model) (l .k) (test .loop-test .taken)) in
-    (omega arith, rw tested (every-next p Uni (drop 8 (sheet (a .model))) (l .k) (l .all) (test .loop-test .taken)) ∙ l .inv .1)
+    (omega arith, rw tested (next p Uni (drop 8 (sheet (a .model))) (l .k) 9 (l .all) (test .loop-test .taken) (omega arith)) ∙ l .inv .1)
 
 returns : tie.Need-returns Inv-loop μ-loop
 returns c =
     let l = c .before .loop in
     let a = c .before .before .before .args in
-    sym (every-end (rowWithin (a .model) (a .t1)) Uni (drop 8 (sheet (a .model))) (l .k) (l .all) (c .loop-test .left)) ∙ l .inv .1
+    sym (end (rowWithin (a .model) (a .t1)) Uni (drop 8 (sheet (a .model))) (l .k) 9 (l .all) (c .loop-test .left)) ∙ l .inv .1
 
 pub stored-are-within-spec : {M : Type 1} → statement M
 stored-are-within-spec =

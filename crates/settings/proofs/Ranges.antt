@@ -7,15 +7,15 @@ use native.Mathlib.Omega.{arith}
 use native.Mathlib.Numerals.{add-one}
 use lib.ListN.{length, getD, take, drop}
 use lib.Seq.{drop-cons}
 use Rattle.settings.specs.Lists.{every}
 
-module _ (p : ℕ → Bool) (l : List ℕ) (i b : ℕ) (all : Bool) where
+module _ {A : Type 0} (p : A → Bool) (d : A) (l : List A) (i b : ℕ) (all : Bool) where
   pub next : i < b → b ≤ length l
-      → all && p (getD l i 0) && every p (take (b - (i + 1)) (drop (i + 1) l)) ≡ all && every p (take (b - i) (drop i l))
+      → all && p (getD l i d) && every p (take (b - (i + 1)) (drop (i + 1) l)) ≡ all && every p (take (b - i) (drop i l))
   unfolding every
   next h g =
       let q : b - i ≡ suc (b - (i + 1)) = omega arith in
-      rw (q, drop-cons l i 0 (omega arith), add-one i) (and-assoc all (p (getD l i 0)) (every p (take (b - suc i) (drop (suc i) l))))
+      rw (q, drop-cons l i d (omega arith), add-one i) (and-assoc all (p (getD l i d)) (every p (take (b - suc i) (drop (suc i) l))))
 
   pub end : b ≤ i → all && every p (take (b - i) (drop i l)) ≡ all
   unfolding every

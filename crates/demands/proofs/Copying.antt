@@ -180,15 +180,18 @@ sheet-copied a b both =
           (settings-within a (both .first)) (own a b both),
     )
 
-pub sheet-cut : SheetCut after
+pub sheet-cut : SheetCut said after
 sheet-cut a b both n =
     let model = modelOf a in
     let sent = each-take (Sent model (settingsOf a)) n (sheet model) (sheet-sent a (both .first)) in
     let e = copied a b both (take n (sheet model)) sent in
     let sa = both .first .formed .shared .settings in
     let sb = both .second .formed .shared .settings in
-    let wa = settings-within a (both .first) in
-    rw e (cut-named model (settingsOf a) (settingsOf b) sa sb wa (own a b both) n, cut-others model (settingsOf a) (settingsOf b) sa sb wa (own a b both) n)
+    let wa = settings-within a (both .first) in (
+      anew-said b _ ∙ made a b both (take n (sheet model)) sent .accepted,
+      rw e (cut-named model (settingsOf a) (settingsOf b) sa sb wa (own a b both) n),
+      rw e (cut-others model (settingsOf a) (settingsOf b) sa sb wa (own a b both) n),
+    )
 
 -- ---- a sheet tells the settings
 

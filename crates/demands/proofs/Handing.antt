@@ -28,7 +28,7 @@ agreed says becomes g = record {
       (λ m both. ((λ a. g s k _ .0 ∙ both .0 a), (λ l r t e. g s k _ .0 ∙ both .1 l r t e))) (known (modelOf s)) (mnemonics-answered s k));
   read = (λ a k. (g a k _ .0 ∙ sheet-read a k .0, ap settingsOf (g a k _ .1) ∙ sheet-read a k .1));
   copied = (λ a b both. let k = both .second in (g b k _ .0 ∙ sheet-copied a b both .0, ap settingsOf (g b k _ .1) ∙ sheet-copied a b both .1));
-  cut = (λ a b both n. rw (g b (both .second) _ .1) (sheet-cut a b both n));
+  cut = (λ a b both n. let c = sheet-cut a b both n in let h = g b (both .second) _ in (h .0 ∙ c .0, rw (h .1) (c .1), rw (h .1) (c .2)));
   decide = (λ a b both.
       let d = sheets-decide a b both in
       let p = g a (both .first) _ .0 in

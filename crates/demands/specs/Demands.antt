@@ -1,5 +1,5 @@
--- What is demanded of a box, said of what it sends for host bytes and of its state after them, so that it can be asked of any program
--- (01, "What the promises have to decide").
+-- Demands 2 and 3 (docs/DEMANDS.md has their sentences; 01, "What the promises have to decide"), said of what a program sends for host bytes and
+-- of its state after them, so that they can be asked of any program.
 use Prim.Native.Nat.{ℕ, _-_, _≤_, _<_}
 use mathlib.Core.Path.{_≡_}
 use mathlib.Core.List.{List, _++_}
@@ -37,7 +37,7 @@ abbrev pub Answers : Says → Type 0
 Answers says =
     (s : State) → Sound s → (l : List ℕ) → Typeable l → says s (anew (asking l)) ≡ answered (s .shared) (s .port .error) (judged (s .shared .model) l)
 
--- a mnemonic that the model answers is read
+-- a mnemonic that the model answers: its name asks for its reply
 abbrev pub Reads : Says → State → Mnemonic → Type 0
 Reads says s m = answers (s .shared .model) m ≡ true → says s (anew (asking (name m))) ≡ ack ++ replyText (s .shared) (s .port .error) m
 
@@ -59,27 +59,27 @@ modelOf s = s .shared .model
 abbrev pub settingsOf : State → Settings
 settingsOf s = s .shared .settings
 
--- what is asked of a box for its sheet, and the sheet of one box as it is sent to another
+-- what is sent to a box to read its sheet
 abbrev pub sheetAsked : State → List ℕ
 sheetAsked s = inquiries (sheet (modelOf s))
 
--- "two states of one model within the limits"
+-- one box and "another of the model", in any two states that boxes can be in: "whatever came before"
 pub record Boxes (a b : State) : Type 0 where
   pub first : Sound a
   pub second : Sound b
   pub model : modelOf a ≡ modelOf b
 
--- "what comes back is an ACK and the reply of each, and its settings are as they were"
+-- "A sheet of settings read from one box": an ACK and the reply of each setting come back, and the settings stay
 abbrev pub SheetRead : Says → Becomes → Type 0
 SheetRead says becomes =
     (a : State) → Sound a
     → (says a (sheetAsked a) ≡ replies (modelOf a) (settingsOf a) (sheet (modelOf a))) × (settingsOf (becomes a (sheetAsked a)) ≡ settingsOf a)
 
--- the lines of a's sheet for some settings
+-- the lines of a's sheet for some of its settings
 abbrev pub linesOf : State → List Setting → List ℕ
 linesOf a xs = commands (modelOf a) (settingsOf a) xs
 
--- "all are accepted and the settings are equal"
+-- "and sent to another of the model is accepted and makes their settings equal"
 abbrev pub SheetCopied : Says → Becomes → Type 0
 SheetCopied says becomes =
     (a b : State) → Boxes a b
@@ -89,14 +89,15 @@ SheetCopied says becomes =
 abbrev pub Same : Model → State → State → Setting → Type 0
 Same model a b x = cells model (settingsOf a) x ≡ cells model (settingsOf b) x
 
--- "cut after any number n of whole lines: the settings named so far are equal, and the rest are the second box's own"
-abbrev pub SheetCut : Becomes → Type 0
-SheetCut becomes =
+-- "cut after any whole line, exactly the settings named so far are equal": the lines are accepted, and the other settings are the second box's own
+abbrev pub SheetCut : Says → Becomes → Type 0
+SheetCut says becomes =
     (a b : State) → Boxes a b → (n : ℕ)
-    → let c = becomes b (linesOf a (take n (sheet (modelOf a)))) in
-    Each (Same (modelOf a) c a) (take n (sheet (modelOf a))) × Each (Same (modelOf a) c b) (drop n (sheet (modelOf a)))
+    → let named = take n (sheet (modelOf a)) in
+    let c = becomes b (linesOf a named) in
+    (says b (linesOf a named) ≡ acks named) × Each (Same (modelOf a) c a) named × Each (Same (modelOf a) c b) (drop n (sheet (modelOf a)))
 
--- "two such boxes give equal sheets exactly when their settings are equal"
+-- "Equal sheets exactly when equal settings."
 abbrev pub SheetsDecide : Says → Type 0
 SheetsDecide says = (a b : State) → Boxes a b → (says a (sheetAsked a) ≡ says b (sheetAsked b)) ↔ (settingsOf a ≡ settingsOf b)
 
@@ -106,7 +107,7 @@ pub record Meets (says : Says) (becomes : Becomes) : Type 0 where
   pub replies : Replies says
   pub read : SheetRead says becomes
   pub copied : SheetCopied says becomes
-  pub cut : SheetCut becomes
+  pub cut : SheetCut says becomes
   pub decide : SheetsDecide says
 
 -- ---- the counts

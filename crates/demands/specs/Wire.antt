@@ -64,8 +64,8 @@ answered s error (Asks m) = ack ++ selectedText s error m
 answered s error (Writes m r) = ack ++ selectedText (written s m r) error m
 answered s error (Refused x) = nak ++ replyText s (gathered error x) (Asked Err)
 
--- what was written, as the ENQ behind it tells: the fields' own values; "CFx takes one factor and answers one per channel"; what takes no field
--- is never written
+-- what the ENQ tells after a line that wrote: the line's own values; "CFx takes one factor and answers one per channel"; a mnemonic without
+-- fields has nothing to write
 abbrev pub writtenText : Shared → Word → Mnemonic → Row → List ℕ
 writtenText s error (Of x) r = joined (texts (kinds (s .model) (Of x)) (take (count (s .model) x) (listed r))) ++ lineEnd
 writtenText s error (Cf k) r = joined (texts (kinds (s .model) (Of Cal)) (set (cells (s .model) (s .settings) Cal) k (r .first))) ++ lineEnd
@@ -73,18 +73,18 @@ writtenText s error (Asked q) r = replyText s error (Asked q)
 writtenText s error Com r = replyText s error (Asked Err)
 writtenText s error Sav r = replyText s error (Asked Err)
 
--- "an ETX and each sheet mnemonic with CR and ENQ"
+-- a sheet is read: an ETX, and each mnemonic with CR and ENQ
 abbrev pub inquiries : List Setting → List ℕ
 inquiries xs = anew (flatMap (λ (x : Setting). asking (name (Of x))) xs)
 
--- "an ACK and the reply of each"
+-- what comes back: an ACK and the reply of each
 abbrev pub replies : Model → Settings → List Setting → List ℕ
 replies model s = flatMap (λ (x : Setting). ack ++ (settingText model s x ++ lineEnd))
 
--- "an ETX, then each mnemonic, a comma and its reply, with CR"
+-- a sheet is sent: an ETX, and each mnemonic, a comma and its reply, with CR
 abbrev pub commands : Model → Settings → List Setting → List ℕ
 commands model s xs = anew (flatMap (λ (x : Setting). ended (lineOf model s x)) xs)
 
--- "all are accepted"
+-- "all are accepted": an ACK for each
 abbrev pub acks : List Setting → List ℕ
 acks = flatMap (λ (x : Setting). ack)

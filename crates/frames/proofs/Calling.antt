@@ -16,7 +16,7 @@ use Rattle.gauges.specs.Readings.{withinLimits}
 use Rattle.gauges.specs.declared.reading.Reading.{Reading}
 use Rattle.tpg.specs.Answers.{number, done, leastOutput}
 use Rattle.tpg.specs.States.{stateWithin}
-use Rattle.tpg.specs.Steps.{after, said, over}
+use Rattle.tpg.specs.Steps.{after, said}
 use Rattle.tpg.specs.Calls.{admits, turnedAway, roomed, roomedBytes, hostText, hosted, freshCall, hostCall, hostBytes, isChannel, readingCall, cycleCall, afterTicks, ticksText, ticksCall, ticksBytes}
 use Rattle.tpg.specs.declared.State.{State}
 use Rattle.tpg.specs.declared.answers.Outcome.{Outcome}
@@ -36,10 +36,6 @@ no-first (b ∷ bs) h = never (omega arith)
 -- what stands behind the first byte
 pub behind : (f : List ℕ) → take (length f - 1) (drop 1 f) ≡ drop 1 f
 behind f = take-all (length f - 1) (drop 1 f) (omega (arith, length-drop 1 f))
-
-pub nothing-laid : (out : List ℕ) → out ≡ over [] out
-unfolding over
-nothing-laid out = refl
 
 -- ---- all host bytes of a frame are taken, where there is room for what they send
 

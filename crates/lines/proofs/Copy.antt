@@ -109,10 +109,6 @@ module _ (model : Model) (a b : Settings) where
         (λ y. copied-others model a wa (take n (sheet model)) b (cut-holding n))
         (drop n (sheet model)) (each-drop Holding n (sheet model) (sheet-holding model)) (distinct-cut n (sheet model) (sheet-distinct model))
 
-    -- and it stays within its limits
-    pub cut-within : (n : ℕ) → within model (afterLines n) ≡ true
-    cut-within n = after-within model (map (lineOf model a) (take n (sheet model))) b sb wb
-
     -- after all of the sheet the settings are equal
     pub whole-copy : after model b (map (lineOf model a) (sheet model)) ≡ a
     whole-copy =

@@ -293,7 +293,3 @@ module _ (model : Model) (s : Settings) (sh : Shaped s) where
       by (Asks m) e = w
       by (Writes m r) e = line-within model s line m r sh w e
       by (Refused x) e = w
-
--- a refused line leaves the settings as they were
-pub refused-nothing : (model : Model) (s : Settings) (line : List ℕ) (x : Fault) → judged model line ≡ Refused x → effect model s (judged model line) ≡ s
-refused-nothing model s line x e = rw e

@@ -1,16 +1,13 @@
--- What is refused changes nothing: a call hands its state back and sends nothing, a line leaves all but the port as it was.
+-- A call that is refused changes nothing: it hands its state back and sends nothing.
 use Prim.Native.Nat.{ℕ, _-_}
 use mathlib.Core.Path.{_≡_, refl, ap}
 use mathlib.Core.List.{List, [], _∷_, map}
 use mathlib.Core.Bool.{Bool, true, false, cond}
 use Rattle.gauges.specs.Readings.{withinLimits}
 use Rattle.gauges.specs.declared.reading.Reading.{Reading}
-use Rattle.lines.specs.declared.verdict.Fault.{Fault}
-use Rattle.lines.specs.declared.verdict.Verdict.the-variants.{Refused}
-use Rattle.ports.specs.declared.Event.the-variants.{Line}
 use Rattle.tpg.specs.Answers.{number, table, answer, handed}
 use Rattle.tpg.specs.States.{stateWithin, cycled}
-use Rattle.tpg.specs.Steps.{acted, hearing, next, over}
+use Rattle.tpg.specs.Steps.{over}
 use Rattle.tpg.specs.Calls.{admits, turnedAway, roomed, roomedBytes, isChannel, read, readingCall, cycleCall}
 use Rattle.tpg.specs.declared.State.{State}
 use Rattle.tpg.specs.declared.answers.Outcome.{Outcome}
@@ -53,11 +50,6 @@ module _ (s : State) where
       by : (a : Bool) → Back s (cond a (handed (answer 0) (cycled s)) (handed (answer 1) s))
       by false n = refl
       by true n = absurd (n refl)
-
-  -- "A refused line leaves settings, saved set and readings as they were", and the switches
-  pub line-refused : (b : ℕ) (x : Fault) → hearing s b .event ≡ Line (Refused x) → next s b .shared ≡ s .shared
-  unfolding next
-  line-refused b x e = ap (acted (s .shared)) e
 
 -- where nothing is sent the output stays as it was
 pub untouched : (out : List ℕ) → over [] out ≡ out

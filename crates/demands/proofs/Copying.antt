@@ -42,10 +42,11 @@ use Rattle.tpg.specs.Steps.{next, after, said}
 use Rattle.tpg.specs.declared.State.{State}
 use Rattle.tpg.proofs.Runs.{after-append, said-append}
 use Rattle.tpg.proofs.Kept.{heard-model}
-use Rattle.demands.specs.Wire.{ack, Character, Typeable, ended, asking, replies, acks}
+use Rattle.demands.specs.Wire.{ack, ended, asking, replies, acks}
 use Rattle.demands.specs.Demands.{modelOf, settingsOf, sheetAsked, Boxes, SheetRead, linesOf, SheetCopied, SheetCut, SheetsDecide}
-use Rattle.demands.proofs.Typing.{Line, line-judged, line-asked, anew-line, anew-shared, anew-said, anew-after}
-use Rattle.demands.proofs.Spelling.{Short, names-short, name-typeable, setting-characters, line-typeable, name-judged}
+use Rattle.demands.proofs.Ending.{Line}
+use Rattle.demands.proofs.Typing.{line-judged, line-asked, anew-line, anew-shared, anew-said, anew-after}
+use Rattle.demands.proofs.Spelling.{Character, Typeable, typeable-inner, typeable-line, Short, names-short, name-typeable, setting-characters, line-typeable, name-judged}
 
 -- ---- what a sheet needs of its mnemonics
 
@@ -66,7 +67,8 @@ module _ (shared : Shared) where
       let bytes = asking (name (Of x)) in
       let rest = flatMap (λ (x : Setting). asking (name (Of x))) xs in
       let verdict : judged (s .shared .model) (name (Of x)) ≡ Asks (Of x) = ap (λ (t : Shared). judged (t .model) (name (Of x))) same ∙ h .0 .asks in
-      let one = line-asked s empty (name (Of x)) (name-typeable (Of x) (h .0 .short)) (Asks (Of x)) verdict in
+      let t = name-typeable (Of x) (h .0 .short) in
+      let one = line-asked s empty (name (Of x)) (typeable-inner (name (Of x)) t) (Asks (Of x)) (ap (judged (s .shared .model)) (typeable-line (name (Of x)) t) ∙ verdict) in
       let all = inquired xs (after s bytes) (one .1 ∙ same) (one .2) (h .1) in (
         said-append bytes rest s ∙ ap₂ (λ (t u : List ℕ). t ++ u) (one .0 ∙ ap (λ (t : Shared). ack ++ replyText t error (Of x)) same) (all .0),
         ap (λ (t : State). t .shared) (after-append bytes rest s) ∙ all .1,
@@ -104,7 +106,8 @@ module _ (model : Model) (a : Settings) where
       let rest = flatMap (λ (x : Setting). ended (lineOf model a x)) xs in
       let v = Writes (Of x) (h .0 .row) in
       let verdict : judged (modelOf s) line ≡ v = ap (λ (m : Model). judged m line) same ∙ h .0 .writes in
-      let one = line-judged s empty line (h .0 .typeable) v verdict in
+      let t = h .0 .typeable in
+      let one = line-judged s empty line (typeable-inner line t) v (ap (judged (modelOf s)) (typeable-line line t) ∙ verdict) in
       let now = after s bytes in
       let all = commanded xs now (ap (λ (t : Shared). t .model) (one .shared) ∙ heard-model (s .shared) v ∙ same) (one .line) (h .1) in
       let set : settingsOf now ≡ effect model (settingsOf s) (judged model line) =

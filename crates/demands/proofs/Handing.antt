@@ -23,7 +23,7 @@ Agrees says becomes = (s : State) → Sound s → (bytes : List ℕ) → (says s
 
 agreed : (says : Says) (becomes : Becomes) → Agrees says becomes → Meets says becomes
 agreed says becomes g = record {
-  answers = (λ s k l t. g s k _ .0 ∙ line-answered s k l t);
+  answers = (λ s k bytes inner. g s k _ .0 ∙ line-answered s k bytes inner);
   replies = (λ s k. each-map (λ (m : Mnemonic). Reads said s m × WritesBack said s m) (λ (m : Mnemonic). Reads says s m × WritesBack says s m)
       (λ m both. ((λ a. g s k _ .0 ∙ both .0 a), (λ l r t e. g s k _ .0 ∙ both .1 l r t e))) (known (modelOf s)) (mnemonics-answered s k));
   read = (λ a k. (g a k _ .0 ∙ sheet-read a k .0, ap settingsOf (g a k _ .1) ∙ sheet-read a k .1));

@@ -38,10 +38,11 @@ use Rattle.shared.specs.declared.Shared.{Shared}
 use Rattle.tpg.specs.States.{Sound}
 use Rattle.tpg.specs.Steps.{lineText, next, said}
 use Rattle.tpg.specs.declared.State.{State}
-use Rattle.demands.specs.Wire.{ack, asking, selectedText, answered, writtenText}
+use Rattle.demands.specs.Wire.{ack, lineIn, asking, selectedText, answered, writtenText}
 use Rattle.demands.specs.Demands.{Answers, Reads, WritesBack, Replies}
-use Rattle.demands.proofs.Typing.{choice, gathering, enqText, line-asked, anew-line, anew-shared, anew-said}
-use Rattle.demands.proofs.Spelling.{Short, names-short, name-typeable, name-judged}
+use Rattle.demands.proofs.Ending.{choice, gathering, enqText}
+use Rattle.demands.proofs.Typing.{line-asked, anew-line, anew-shared, anew-said}
+use Rattle.demands.proofs.Spelling.{typeable-inner, typeable-line, Short, names-short, name-typeable, name-judged}
 
 -- ---- every line
 
@@ -59,10 +60,10 @@ answered-text s error (Refused x) = refl
 
 -- whatever came before: a line and an ENQ are answered by the verdict on the line
 pub line-answered : Answers said
-line-answered s k l t =
-    let v = judged (s .shared .model) l in
+line-answered s k bytes inner =
+    let v = judged (s .shared .model) (lineIn bytes) in
     let same = anew-shared s in
-    anew-said s (asking l) ∙ line-asked (next s 3) (anew-line s) l t v (ap (λ (x : Shared). judged (x .model) l) same) .0
+    anew-said s (asking bytes) ∙ line-asked (next s 3) (anew-line s) bytes inner v (ap (λ (x : Shared). judged (x .model) (lineIn bytes)) same) .0
     ∙ ap (λ (x : Shared). lineText v ++ enqText (heard x v) (gathering (s .port .error) v) (choice v)) same
     ∙ answered-text (s .shared) (s .port .error) v
 
@@ -82,7 +83,9 @@ reads s k m sp short a =
     let b = and-true (isKnown (recognised model (name m))) (ltb (channelOf m) (channels model) && hasReply m) a .1 in
     let c = and-true (ltb (channelOf m) (channels model)) (hasReply m) b in
     let v : judged model (name m) ≡ Asks m = name-judged model m sp (ltb-true (channelOf m) (channels model) (c .0)) ∙ alone-asks m (c .1) in
-    line-answered s k (name m) (name-typeable m short) ∙ ap (answered (s .shared) (s .port .error)) v ∙ rw (c .1)
+    let t = name-typeable m short in
+    line-answered s k (name m) (typeable-inner (name m) t)
+    ∙ ap (answered (s .shared) (s .port .error)) (ap (judged model) (typeable-line (name m) t) ∙ v) ∙ rw (c .1)
 
 -- ---- a line that writes it
 
@@ -161,8 +164,8 @@ module _ (s : State) (k : Sound s) where
 
   writes-back : (m : Mnemonic) → Back m → WritesBack said s m
   unfolding Back
-  writes-back m b l r t e =
-      line-answered s k l t ∙ ap (answered (s .shared) (s .port .error)) e ∙ ap (λ (x : List ℕ). ack ++ x) (b r (writes-fitting (s .shared .model) l m r e))
+  writes-back m b bytes r inner e =
+      line-answered s k bytes inner ∙ ap (answered (s .shared) (s .port .error)) e ∙ ap (λ (x : List ℕ). ack ++ x) (b r (writes-fitting (s .shared .model) (lineIn bytes) m r e))
 
 -- every mnemonic that the model knows, read and written, in every state that a box can be in
 pub mnemonics-answered : Replies said

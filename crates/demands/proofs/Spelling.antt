@@ -1,11 +1,11 @@
 -- The lines of a sheet can be typed: names and written numbers are characters, and few enough.
 use Prim.Native.Nat.{ℕ, _≤_, _<_}
 use Prim.Native.Char.{code}
-use mathlib.Core.Path.{_≡_, refl}
+use mathlib.Core.Path.{_≡_, refl, ap}
 use mathlib.Core.List.{List, [], _∷_}
 use mathlib.Core.Bool.{Bool, true, _&&_}
 use native.Mathlib.Omega.{arith}
-use borrow.Author.Tests.{leb-true}
+use borrow.Author.Tests.{leb-true, lt-ltb, ne-eqb}
 use lib.ListN.{length, length-append}
 use lib.Dec.{leb}
 use Rattle.numbers.specs.declared.threshold.Threshold.{Threshold}
@@ -30,7 +30,36 @@ use Rattle.lines.proofs.ReadBack.{Written, each-written}
 use Rattle.lines.proofs.Accepted.{Spelt, line-fields}
 use Rattle.ports.specs.Limits.{inRange}
 use Rattle.shared.proofs.Lengths.{setting-short}
-use Rattle.demands.specs.Wire.{Character, Typeable}
+use Rattle.demands.specs.Wire.{Inner, undropped, isCharacter, lineIn}
+use Rattle.demands.proofs.Typing.{short-good}
+
+-- ---- lines that are what is sent of them
+
+-- a byte above the space and below 127
+abbrev pub Character : ℕ → Type 0
+Character b = (33 ≤ b) × (b ≤ 126)
+
+-- up to 80 of them
+pub record Typeable (l : List ℕ) : Type 0 where
+  pub characters : Each Character l
+  pub few : length l ≤ 80
+
+inner : (b : ℕ) → Character b → Inner b
+inner b c = ((λ e. omega (arith, c .0)), (λ e. omega (arith, c .0)), (λ e. omega (arith, c .0)))
+
+pub typeable-inner : (l : List ℕ) → Typeable l → Each Inner l
+typeable-inner l t = each-map Character Inner inner l (t .characters)
+
+all-kept : (l : List ℕ) → Each Character l → undropped l ≡ l
+unfolding undropped
+all-kept [] c = refl
+all-kept (b ∷ l) c =
+    rw (ne-eqb b 10 (λ e. omega (arith, c .0 .0)), ne-eqb b 32 (λ e. omega (arith, c .0 .0))) (ap (λ (t : List ℕ). b ∷ t) (all-kept l (c .1)))
+
+pub typeable-line : (l : List ℕ) → Typeable l → lineIn l ≡ l
+typeable-line l t =
+    let test = each-map Character (λ (b : ℕ). isCharacter b ≡ true) (λ b c. rw (lt-ltb 32 b (c .0), lt-ltb b 127 (omega (arith, c .1)))) l (t .characters) in
+    rw (all-kept l (t .characters), short-good l test (t .few))
 
 -- ---- names
 

@@ -1,222 +1,186 @@
--- A line on the wire: its characters one by one, the CR that ends it, the ENQ behind it, and the ETX before it.
+-- A line on the wire: its bytes one by one, good or bad, with its CR and the ENQ behind it, and an ETX before it.
 use Prim.Native.Nat.{ℕ, _+_, _≤_, _<_}
-use mathlib.Core.Path.{_≡_, refl, ap, subst, _∙_}
+use mathlib.Core.Path.{_≡_, refl, sym, ap, ap₂, subst, _∙_}
 use mathlib.Core.List.{List, [], _∷_, _++_, append-assoc, append-nil}
-use mathlib.Core.Bool.{Bool, true, false, cond, and-false}
+use mathlib.Core.Bool.{true, false, cond, _||_, and-false}
+use mathlib.Core.Logic.{⊎-elim}
 use native.Mathlib.Omega.{arith}
 use native.Mathlib.Numerals.{add-one}
-use borrow.Author.Tests.{lt-ltb, le-leb, ne-eqb}
-use lib.ListN.{length, take, length-set, length-append}
+use borrow.Author.Tests.{lt-ltb, le-ltb, lt-leb, le-leb}
+use lib.ListN.{length, length-set, length-append}
 use lib.Seq.{take-suc-set}
 use lib.Dec.{eqb}
-use Rattle.settings.specs.Lists.{Each}
-use Rattle.settings.specs.Mnemonics.{isErr}
-use Rattle.settings.specs.Rows.{number}
-use Rattle.settings.specs.declared.model.Model.{Model}
-use Rattle.settings.specs.declared.mnemonic.Query.the-variants.{Err}
-use Rattle.settings.specs.declared.mnemonic.Mnemonic.{Mnemonic}
-use Rattle.settings.specs.declared.mnemonic.Mnemonic.the-variants.{Setting as Of, Cf, Query as Asked, Com, Sav}
-use Rattle.settings.specs.declared.rows.Row.{Row}
-use Rattle.lines.specs.Words.{noError, gathered}
+use Rattle.settings.specs.Lists.{every, Each}
+use Rattle.settings.proofs.Lists.{each-append, each-every}
+use Rattle.numbers.proofs.Cases.{below}
 use Rattle.lines.specs.Judging.{judged}
 use Rattle.lines.specs.declared.word.Word.{Word}
 use Rattle.lines.specs.declared.verdict.Verdict.{Verdict}
-use Rattle.lines.specs.declared.verdict.Verdict.the-variants.{Asks, Writes, Refused}
-use Rattle.ports.specs.Line.{emptied, grown, held, isEmpty}
-use Rattle.ports.specs.Stream.{intervalOf, withStream, begun}
-use Rattle.ports.specs.Hearing.{kindOf, withMark, withChoice, selected, concluded, answered, replied, asked, byKind, heard as portHeard, isTyped, typedOne, typedAll, settled}
+use Rattle.ports.specs.Line.{spoilt, grown}
+use Rattle.ports.specs.Hearing.{withMark, settled}
 use Rattle.ports.specs.declared.Port.{Port}
 use Rattle.ports.specs.declared.Selection.{Selection}
-use Rattle.ports.specs.declared.Selection.the-variants.{Nothing, Of as Chosen}
-use Rattle.ports.proofs.Characters.{typed-heard}
+use Rattle.ports.specs.declared.Selection.the-variants.{Nothing}
+use Rattle.ports.specs.declared.Heard.{Heard}
+use Rattle.ports.specs.declared.Event.{Event}
+use Rattle.ports.specs.declared.Event.the-variants.{Silent}
+use Rattle.ports.proofs.Kept.{inner-by}
+use Rattle.ports.proofs.Instances.{bad-stays}
 use Rattle.shared.specs.Events.{heard}
-use Rattle.shared.specs.Replies.{replyText}
 use Rattle.shared.specs.declared.Shared.{Shared}
-use Rattle.tpg.specs.Steps.{lineText, eventText, acted, next, sent, after, said}
+use Rattle.tpg.specs.Steps.{lineText, eventText, acted, hearing, next, sent, after, said}
 use Rattle.tpg.specs.declared.State.{State}
 use Rattle.tpg.proofs.Runs.{after-append, said-append}
-use Rattle.demands.specs.Wire.{Character, Typeable, ended, asking, anew}
+use Rattle.demands.specs.Wire.{Inner, undropped, isCharacter, isGood, lineIn, ended, asking, anew}
+use Rattle.demands.proofs.Ending.{Line, choice, gathering, marked-line, settled-line, Judged, Held, held-line, enqText, wordLeft, cr-judges, enq-replies, etx-empties}
 
--- ---- what a line is in a port
+-- ---- the bytes of a line
 
--- the port holds the line, with a selection and an error word beside it
-pub record Line (p : Port) (l : List ℕ) (selection : Selection) (error : Word) : Type 0 where
-  pub good : p .bad ≡ false
-  pub count : p .len ≡ length l
-  pub text : take (p .len) (p .line) ≡ l
-  pub places : length (p .line) ≡ 80
-  pub chosen : p .selection ≡ selection
-  pub word : p .error ≡ error
+-- one character more
+grown-line : {p : Port} {l : List ℕ} {selection : Selection} {error : Word} → Line p l selection error → (b : ℕ) → length l < 80 → Line (grown p b) (l ++ b ∷ []) selection error
+unfolding grown
+grown-line {p} {l} h b few =
+    let len : p .len < 80 = omega (arith, h .count) in
+    let inside : p .len < length (p .line) = omega (arith, h .places) in
+    rw (h .good, lt-ltb (p .len) 80 len)
+    (record {
+      good = refl;
+      count = omega (arith, h .count, length-append l (b ∷ []));
+      text = rw (add-one (p .len)) (take-suc-set (p .line) (p .len) b inside ∙ ap (λ (t : List ℕ). t ++ b ∷ []) (h .text));
+      places = rw (length-set (p .line) (p .len) b) (h .places);
+      chosen = h .chosen;
+      word = h .word;
+    })
 
--- ---- its characters
+-- what bytes leave in a box: nothing is sent, what all share stays, and the port holds a line
+record Typed (s : State) (bytes l : List ℕ) (selection : Selection) (error : Word) : Type 0 where
+  silent : said s bytes ≡ []
+  shared : after s bytes .shared ≡ s .shared
+  line : Held (after s bytes .port) l selection error
 
-module _ {p : Port} {l : List ℕ} {selection : Selection} {error : Word} (h : Line p l selection error) (b : ℕ) (c : Character b) (few : length l < 80) where
-  typed-one : Line (typedOne p b) (l ++ b ∷ []) selection error
-  unfolding typedOne grown
-  typed-one =
-      let len : p .len < 80 = omega (arith, h .count) in
-      let inside : p .len < length (p .line) = omega (arith, h .places) in
-      rw (ne-eqb b 32 (λ e. omega (arith, c .0)), h .good, lt-ltb (p .len) 80 len)
-      (record {
-        good = refl;
-        count = omega (arith, h .count, length-append l (b ∷ []));
-        text = rw (add-one (p .len)) (take-suc-set (p .line) (p .len) b inside ∙ ap (λ (t : List ℕ). t ++ b ∷ []) (h .text));
-        places = rw (length-set (p .line) (p .len) b) (h .places);
-        chosen = h .chosen;
-        word = h .word;
-      })
+module _ (s : State) (b : ℕ) (bytes l : List ℕ) (selection : Selection) (error : Word) where
+  -- the rest of the bytes, from another port on
+  abbrev Rest : Port → Type 0
+  Rest p = Typed (record { shared = s .shared; port = p }) bytes l selection error
 
-typed-line : (front l : List ℕ) {p : Port} {selection : Selection} {error : Word} → Line p front selection error → Each Character l → length front + length l ≤ 80
-    → Line (typedAll p l) (front ++ l) selection error
-unfolding typedAll
-typed-line front [] h c few = rw (append-nil front) h
-typed-line front (b ∷ l) {p} {selection} {error} h c few =
-    let more : length (front ++ b ∷ []) + length l ≤ 80 = omega (arith, length-append front (b ∷ [])) in
-    subst (λ t. Line (typedAll (typedOne p b) l) t selection error) (append-assoc front (b ∷ []) l)
-    (typed-line (front ++ b ∷ []) l (typed-one h b (c .0) (omega arith)) (c .1) more)
+  abbrev Silently : Heard → Type 0
+  Silently h = (h .event ≡ Silent) × Rest (h .port)
 
--- no character is answered, and none changes what all hosts share
-typed-run : (l : List ℕ) (s : State) → Each Character l → (said s l ≡ []) × (after s l ≡ record { shared = s .shared; port = typedAll (s .port) l })
-unfolding after said next sent typedAll eventText
-typed-run [] s c = (refl, refl)
-typed-run (b ∷ l) s c =
-    let typed : isTyped b ≡ true = rw (le-leb 32 b (omega (arith, c .0 .0)), le-leb b 126 (c .0 .1)) in
-    rw (typed-heard (s .shared .model) (s .port) b typed) (typed-run l (record { shared = s .shared; port = typedOne (s .port) b }) (c .1))
+  first-typed : Silently (hearing s b) → Typed s (b ∷ bytes) l selection error
+  unfolding said after next sent eventText
+  first-typed h =
+      let t = h .1 in
+      let none : sent s b ≡ [] = ap (eventText (s .shared)) (h .0) in
+      let now : next s b ≡ record { shared = s .shared; port = hearing s b .port } =
+      ap (λ (e : Event). record { shared = acted (s .shared) e; port = hearing s b .port }) (h .0) in
+      record {
+        silent = ap₂ (λ (u : List ℕ) (x : State). u ++ said x bytes) none now ∙ t .silent;
+        shared = ap (λ (x : State). after x bytes .shared) now ∙ t .shared;
+        line = subst (λ x. Held (after x bytes .port) l selection error) (sym now) (t .line);
+      }
 
--- ---- its end
+  byte-typed : Inner b → (eqb b 10 || eqb b 32 ≡ true → Rest (withMark (s .port) false)) → (eqb b 10 || eqb b 32 ≡ true → Rest (settled (s .port)))
+      → (eqb b 10 || eqb b 32 ≡ false → isCharacter b ≡ true → Rest (grown (settled (s .port)) b))
+      → (eqb b 10 || eqb b 32 ≡ false → isCharacter b ≡ false → Rest (spoilt (settled (s .port)))) → Typed s (b ∷ bytes) l selection error
+  byte-typed inner kept settles grows spoils =
+      first-typed
+      (inner-by Silently (s .shared .model) (s .port) b (inner .0) (inner .1) (inner .2)
+      (λ d. (refl, kept d)) (λ d. (refl, settles d)) (λ d c. (refl, grows d c)) (λ d c. (refl, spoils d c)))
 
--- the selection and the error word after a line
-abbrev pub choice : Verdict → Selection
-choice (Asks m) = selected m
-choice (Writes m r) = selected m
-choice (Refused x) = Nothing
+-- a bad line
+record Bad (p : Port) (selection : Selection) (error : Word) : Type 0 where
+  bad : p .bad ≡ true
+  chosen : p .selection ≡ selection
+  word : p .error ≡ error
 
-abbrev pub gathering : Word → Verdict → Word
-gathering error (Asks m) = error
-gathering error (Writes m r) = error
-gathering error (Refused x) = gathered error x
+-- stays bad, and holds nothing
+bad-run : (bytes : List ℕ) (s : State) {selection : Selection} {error : Word} → Each Inner bytes → Bad (s .port) selection error → Typed s bytes [] selection error
+unfolding said after
+bad-run [] s inner h = record { silent = refl; shared = refl; line = record { text = rw (h .bad); chosen = h .chosen; word = h .word } }
+bad-run (b ∷ bytes) s {selection} {error} inner h =
+    let same : Bad (settled (s .port)) selection error = record { bad = h .bad; chosen = h .chosen; word = h .word } in
+    byte-typed s b bytes [] selection error (inner .0)
+    (λ _. bad-run bytes _ (inner .1) (record { bad = h .bad; chosen = h .chosen; word = h .word }))
+    (λ _. bad-run bytes _ (inner .1) same)
+    (λ _ _. bad-run bytes _ (inner .1) (subst (λ p. Bad p selection error) (sym (bad-stays (settled (s .port)) b (h .bad))) same))
+    (λ _ _. bad-run bytes _ (inner .1) (record { bad = refl; chosen = h .chosen; word = h .word }))
 
--- another selection and error word beside it
-with-choice : {p : Port} {l : List ℕ} {selection : Selection} {error : Word} → Line p l selection error → (x : Selection) (w v : Word) → w ≡ v → Line (withChoice p x w) l x v
-with-choice h x w v e = record { good = h .good; count = h .count; text = h .text; places = h .places; chosen = refl; word = e }
+-- ---- which bytes make a line bad
 
--- a line that is emptied
-emptied-line : {p : Port} {l : List ℕ} {selection : Selection} {error : Word} → Line p l selection error → Line (emptied p) [] selection error
-emptied-line h = record { good = refl; count = refl; text = refl; places = refl; chosen = h .chosen; word = h .word }
+-- a line so far, and the bytes that are still to come
+abbrev lineWith : List ℕ → List ℕ → List ℕ
+lineWith front bytes = cond (isGood (front ++ undropped bytes)) (front ++ undropped bytes) []
 
--- the mark after a CR, and the stream, are no part of it
-marked-line : {p : Port} {l : List ℕ} {selection : Selection} {error : Word} → Line p l selection error → (ended : Bool) → Line (withMark p ended) l selection error
-marked-line h ended = record { good = h .good; count = h .count; text = h .text; places = h .places; chosen = h .chosen; word = h .word }
+no-character : (front : List ℕ) (b : ℕ) (l : List ℕ) → isCharacter b ≡ false → every isCharacter (front ++ b ∷ l) ≡ false
+unfolding every
+no-character [] b l e = rw e
+no-character (x ∷ front) b l e = rw (no-character front b l e) (and-false (isCharacter x))
 
-streamed-line : {p : Port} {l : List ℕ} {selection : Selection} {error : Word} → Line p l selection error → (interval ticks : ℕ) → Line (withStream p interval ticks) l selection error
-streamed-line h interval ticks = record { good = h .good; count = h .count; text = h .text; places = h .places; chosen = h .chosen; word = h .word }
+spoilt-bad : (front : List ℕ) (b : ℕ) (l : List ℕ) → isCharacter b ≡ false → isGood (front ++ b ∷ l) ≡ false
+unfolding isGood
+spoilt-bad front b l e = rw (no-character front b l e)
 
-settled-line : {p : Port} {l : List ℕ} {selection : Selection} {error : Word} → Line p l selection error → Line (settled p) l selection error
-settled-line h = streamed-line (marked-line h false) 0 0
+long-bad : (front : List ℕ) (b : ℕ) (l : List ℕ) → 80 ≤ length front → isGood (front ++ b ∷ l) ≡ false
+unfolding isGood
+long-bad front b l h =
+    rw (lt-leb (length (front ++ b ∷ l)) 80 (omega (arith, length-append front (b ∷ l)))) (and-false (every isCharacter (front ++ b ∷ l)))
 
-begun-line : {p : Port} {l : List ℕ} {selection : Selection} {error : Word} (m : Mnemonic) (r : Row) → Line p l selection error → Line (begun p m r) l selection error
-begun-line (Of x) r h = h
-begun-line (Cf k) r h = h
-begun-line (Asked q) r h = h
-begun-line Com r h = streamed-line h (intervalOf (number r)) 0
-begun-line Sav r h = h
+pub short-good : (front : List ℕ) → Each (λ (b : ℕ). isCharacter b ≡ true) front → length front ≤ 80 → isGood front ≡ true
+unfolding isGood
+short-good front c h = rw (each-every isCharacter front c, le-leb (length front) 80 h)
 
-concluded-line : {p : Port} {selection : Selection} {error : Word} → Line p [] selection error → (v : Verdict) → Line (concluded p v) [] (choice v) (gathering error v)
-unfolding concluded
-concluded-line {p} {selection} {error} h (Asks m) = with-choice h (selected m) (p .error) error (h .word)
-concluded-line {p} {selection} {error} h (Writes m r) = begun-line m r (with-choice h (selected m) (p .error) error (h .word))
-concluded-line {p} {selection} {error} h (Refused x) =
-    with-choice h Nothing (gathered (p .error) x) (gathered error x) (ap (λ (w : Word). gathered w x) (h .word))
+-- an 81st character
+full-spoils : {p : Port} {l : List ℕ} {selection : Selection} {error : Word} → Line p l selection error → (b : ℕ) → 80 ≤ length l → Bad (grown p b) selection error
+unfolding grown
+full-spoils {p} h b few = rw (h .good, le-ltb (p .len) 80 (omega (arith, h .count))) (record { bad = refl; chosen = h .chosen; word = h .word })
 
--- ---- one byte that is no character: CR, ENQ, ETX
+-- ---- all bytes of a line
 
--- straight after a CR or not, it is no LF
-no-lf : (model : Model) (p : Port) (b : ℕ) → eqb b 10 ≡ false → portHeard model p b ≡ byKind model (kindOf b) (settled p) b
-unfolding portHeard
-no-lf model p b e = rw (e, and-false (p .ended))
-
--- what a line comes to: what is sent, what all share, and the port with an empty line again
-pub record Judged (s : Shared) (error : Word) (v : Verdict) (bytes : List ℕ) (next : State) : Type 0 where
-  pub reply : bytes ≡ lineText v
-  pub shared : next .shared ≡ heard s v
-  pub line : Line (next .port) [] (choice v) (gathering error v)
-
-held-line : {p : Port} {l : List ℕ} {selection : Selection} {error : Word} → Line p l selection error → held p ≡ l
-held-line h = rw (h .good) (h .text)
-
--- what an ENQ on an empty line is answered with, and the error word after it: it is gone where it was sent
-abbrev pub enqText : Shared → Word → Selection → List ℕ
-enqText s error Nothing = replyText s error (Asked Err)
-enqText s error (Chosen m) = replyText s error m
-
-abbrev pub wordLeft : Word → Selection → Word
-wordLeft error Nothing = noError
-wordLeft error (Chosen m) = cond (isErr m) noError error
-
-pub record Replied (s : Shared) (error : Word) (selection : Selection) (bytes : List ℕ) (next : State) : Type 0 where
-  pub reply : bytes ≡ enqText s error selection
-  pub shared : next .shared ≡ s
-  pub line : Line (next .port) [] selection (wordLeft error selection)
-
-replied-line : {p : Port} {m : Mnemonic} {error : Word} → Line p [] (Chosen m) error → Line (replied p m .port) [] (Chosen m) (cond (isErr m) noError error)
-replied-line {p} {m} {error} h = by (isErr m)
-  where
-    by : (t : Bool) → Line (cond t (withChoice p (Chosen m) noError) p) [] (Chosen m) (cond t noError error)
-    by true = with-choice h (Chosen m) noError noError refl
-    by false = h
-
-asked-empty : {p : Port} {selection : Selection} {error : Word} → Line p [] selection error → asked p ≡ answered p selection
-unfolding asked
-asked-empty {p} h = let empty : isEmpty p ≡ true = rw (h .good, h .count) in rw empty (ap (answered p) (h .chosen))
-
-answered-line : (s : Shared) {p : Port} {selection : Selection} {error : Word} → Line p [] selection error
-    → (eventText s (answered p selection .event) ≡ enqText s error selection) × (acted s (answered p selection .event) ≡ s) × Line (answered p selection .port) [] selection (wordLeft error selection)
-unfolding eventText
-answered-line s {selection = Nothing} h = (ap (λ (w : Word). replyText s w (Asked Err)) (h .word), refl, with-choice (emptied-line h) Nothing noError noError refl)
-answered-line s {selection = Chosen m} h = (ap (λ (w : Word). replyText s w m) (h .word), refl, replied-line h)
-
-module _ (s : State) where
-  cr-judges : {l : List ℕ} {selection : Selection} {error : Word} → Line (s .port) l selection error
-      → Judged (s .shared) error (judged (s .shared .model) l) (sent s 13) (next s 13)
-  unfolding next sent eventText byKind kindOf
-  cr-judges {l} h =
-      rw (no-lf (s .shared .model) (s .port) 13 refl, held-line h)
-      (record { reply = refl; shared = refl; line = concluded-line (marked-line (emptied-line (settled-line h)) true) (judged (s .shared .model) l) })
-
-  enq-replies : {selection : Selection} {error : Word} → Line (s .port) [] selection error → Replied (s .shared) error selection (sent s 5) (next s 5)
-  unfolding next sent eventText byKind kindOf
-  enq-replies {selection} {error} h =
-      rw (no-lf (s .shared .model) (s .port) 5 refl, asked-empty (settled-line h))
-      (let a = answered-line (s .shared) (settled-line h) in record { reply = a .0; shared = a .1; line = a .2 })
-
-  etx-empties : (sent s 3 ≡ []) × (next s 3 .shared ≡ s .shared) × Line (next s 3 .port) [] Nothing (s .port .error)
-  unfolding next sent eventText byKind kindOf
-  etx-empties =
-      rw (no-lf (s .shared .model) (s .port) 3 refl)
-      (refl, refl, record { good = refl; count = refl; text = refl; places = refl; chosen = refl; word = refl })
+good-run : (bytes : List ℕ) (s : State) (front : List ℕ) {selection : Selection} {error : Word} → Each Inner bytes → Line (s .port) front selection error
+    → Each (λ (b : ℕ). isCharacter b ≡ true) front → length front ≤ 80 → Typed s bytes (lineWith front bytes) selection error
+unfolding said after undropped
+good-run [] s front inner h c few = record {
+  silent = refl;
+  shared = refl;
+  line = rw (append-nil front, short-good front c few) (held-line h);
+}
+good-run (b ∷ bytes) s front {selection} {error} inner h c few =
+    let longer : State = record { shared = s .shared; port = grown (settled (s .port)) b } in
+    byte-typed s b bytes (lineWith front (b ∷ bytes)) selection error (inner .0)
+    (λ d. rw d (good-run bytes _ front (inner .1) (marked-line h false) c few))
+    (λ d. rw d (good-run bytes _ front (inner .1) (settled-line h) c few))
+    (λ d e. rw d
+    (⊎-elim
+    (λ (l : length front < 80). subst (λ t. Typed longer bytes (cond (isGood t) t []) selection error) (append-assoc front (b ∷ []) (undropped bytes))
+    (good-run bytes longer (front ++ b ∷ []) (inner .1) (grown-line (settled-line h) b l) (each-append (λ (b : ℕ). isCharacter b ≡ true) front (b ∷ []) c (e, tt)) (omega (arith, length-append front (b ∷ [])))))
+    (λ (l : 80 ≤ length front). rw (long-bad front b (undropped bytes) l) (bad-run bytes _ (inner .1) (full-spoils (settled-line h) b l)))
+    (below (length front) 80)))
+    (λ d e. rw (d, spoilt-bad front b (undropped bytes) e) (bad-run bytes _ (inner .1) (record { bad = refl; chosen = h .chosen; word = h .word })))
 
 -- ---- a line and its CR
 
-module _ (s : State) {selection : Selection} {error : Word} (empty : Line (s .port) [] selection error) (l : List ℕ) (t : Typeable l)
-    (v : Verdict) (verdict : judged (s .shared .model) l ≡ v) where
-  pub line-judged : Judged (s .shared) error v (said s (ended l)) (after s (ended l))
+module _ (s : State) {selection : Selection} {error : Word} (empty : Line (s .port) [] selection error) (bytes : List ℕ) (inner : Each Inner bytes)
+    (v : Verdict) (verdict : judged (s .shared .model) (lineIn bytes) ≡ v) where
+  pub line-judged : Judged (s .shared) error v (said s (ended bytes)) (after s (ended bytes))
   unfolding after said
   line-judged =
-      let typed = typed-run l s (t .characters) in
-      let held = typed-line [] l empty (t .characters) (omega (arith, t .few)) in
-      let full : State = record { shared = s .shared; port = typedAll (s .port) l } in
-      rw (said-append l (13 ∷ []) s, after-append l (13 ∷ []) s, typed .0, typed .1, append-nil (sent full 13)) (rw verdict at (cr-judges full held))
+      let t = good-run bytes s [] inner empty tt (omega arith) in
+      let now = after s bytes in
+      let j = cr-judges now (t .line) in
+      let same : judged (now .shared .model) (lineIn bytes) ≡ v = ap (λ (x : Shared). judged (x .model) (lineIn bytes)) (t .shared) ∙ verdict in
+      rw (said-append bytes (13 ∷ []) s, after-append bytes (13 ∷ []) s, t .silent, append-nil (sent now 13))
+      (rw (same, t .shared) at j)
 
   -- and the ENQ behind it
-  pub line-asked : (said s (asking l) ≡ lineText v ++ enqText (heard (s .shared) v) (gathering error v) (choice v))
-      × (after s (asking l) .shared ≡ heard (s .shared) v)
-      × Line (after s (asking l) .port) [] (choice v) (wordLeft (gathering error v) (choice v))
+  pub line-asked : (said s (asking bytes) ≡ lineText v ++ enqText (heard (s .shared) v) (gathering error v) (choice v))
+      × (after s (asking bytes) .shared ≡ heard (s .shared) v)
+      × Line (after s (asking bytes) .port) [] (choice v) (wordLeft (gathering error v) (choice v))
   unfolding after said
   line-asked =
       let j = line-judged in
-      let now = after s (ended l) in
+      let now = after s (ended bytes) in
       let r = enq-replies now (j .line) in
-      rw (said-append (ended l) (5 ∷ []) s, after-append (ended l) (5 ∷ []) s, append-nil (sent now 5), r .reply, j .reply, r .shared, j .shared) (refl, refl, r .line)
+      rw (said-append (ended bytes) (5 ∷ []) s, after-append (ended bytes) (5 ∷ []) s, append-nil (sent now 5), r .reply, j .reply, r .shared, j .shared) (refl, refl, r .line)
 
 -- ---- an ETX first
 

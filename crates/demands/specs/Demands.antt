@@ -21,7 +21,7 @@ use Rattle.tpg.specs.Answers.{leastOutput}
 use Rattle.tpg.specs.States.{Sound}
 use Rattle.tpg.specs.Steps.{said}
 use Rattle.tpg.specs.declared.State.{State}
-use Rattle.demands.specs.Wire.{ack, Typeable, asking, anew, answered, writtenText, inquiries, replies, commands, acks}
+use Rattle.demands.specs.Wire.{ack, Inner, lineIn, asking, anew, answered, writtenText, inquiries, replies, commands, acks}
 
 -- what a program sends for host bytes, and its state after them
 abbrev pub Says : Type 0
@@ -32,10 +32,12 @@ Becomes = State → List ℕ → State
 
 -- ---- demand 2
 
--- "Each reply is byte for byte what the mnemonics protocol and paper 01 give": for a line and an ENQ, in every state that a box can be in
+-- "Each reply is byte for byte what the mnemonics protocol and paper 01 give": for any bytes of a line, good or bad, its CR and an ENQ, in every
+-- state that a box can be in
 abbrev pub Answers : Says → Type 0
 Answers says =
-    (s : State) → Sound s → (l : List ℕ) → Typeable l → says s (anew (asking l)) ≡ answered (s .shared) (s .port .error) (judged (s .shared .model) l)
+    (s : State) → Sound s → (bytes : List ℕ) → Each Inner bytes
+    → says s (anew (asking bytes)) ≡ answered (s .shared) (s .port .error) (judged (s .shared .model) (lineIn bytes))
 
 -- a mnemonic that the model answers: its name asks for its reply
 abbrev pub Reads : Says → State → Mnemonic → Type 0
@@ -44,8 +46,8 @@ Reads says s m = answers (s .shared .model) m ≡ true → says s (anew (asking 
 -- and a line that writes it is answered with what it wrote
 abbrev pub WritesBack : Says → State → Mnemonic → Type 0
 WritesBack says s m =
-    (l : List ℕ) (r : Row) → Typeable l → judged (s .shared .model) l ≡ Writes m r
-    → says s (anew (asking l)) ≡ ack ++ writtenText (s .shared) (s .port .error) m r
+    (bytes : List ℕ) (r : Row) → Each Inner bytes → judged (s .shared .model) (lineIn bytes) ≡ Writes m r
+    → says s (anew (asking bytes)) ≡ ack ++ writtenText (s .shared) (s .port .error) m r
 
 -- every mnemonic that the model knows, read and written
 abbrev pub Replies : Says → Type 0

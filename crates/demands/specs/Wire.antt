@@ -1,9 +1,11 @@
 -- Lines, replies and sheets as bytes on the wire (01, "Bytes from the host" and "What the promises have to decide").
-use Prim.Native.Nat.{ℕ, _≤_}
+use Prim.Native.Nat.{ℕ}
 use mathlib.Core.List.{List, [], _∷_, _++_, flatMap}
-use mathlib.Core.Bool.{cond}
+use mathlib.Core.Bool.{Bool, cond, _&&_, _||_}
+use mathlib.Core.Logic.{_≢_}
+use lib.Dec.{eqb, ltb, leb}
 use lib.ListN.{length, set, take}
-use Rattle.settings.specs.Lists.{Each}
+use Rattle.settings.specs.Lists.{every}
 use Rattle.settings.specs.Mnemonics.{name, hasReply}
 use Rattle.settings.specs.Kinds.{kinds}
 use Rattle.settings.specs.Rows.{listed, count, cells}
@@ -33,22 +35,34 @@ ack = 6 ∷ lineEnd
 abbrev pub nak : List ℕ
 nak = 21 ∷ lineEnd
 
--- a byte above the space and below 127
-abbrev pub Character : ℕ → Type 0
-Character b = (33 ≤ b) × (b ≤ 126)
+-- the bytes that a line is made of: all but the three that end or drop one, CR, ETX and ENQ
+abbrev pub Inner : ℕ → Type 0
+Inner b = (b ≢ 13) × (b ≢ 3) × (b ≢ 5)
+
+-- "Any other LF, and every space, is dropped."
+unfoldable pub undropped : List ℕ → List ℕ
+undropped [] = []
+undropped (b ∷ bytes) = cond (eqb b 10 || eqb b 32) (undropped bytes) (b ∷ undropped bytes)
+
+-- not "a byte below 32 .., or one of 127 and above"; the space is dropped
+abbrev pub isCharacter : ℕ → Bool
+isCharacter b = ltb 32 b && ltb b 127
 
 -- "A line holds up to 80 characters"
-pub record Typeable (l : List ℕ) : Type 0 where
-  pub characters : Each Character l
-  pub few : length l ≤ 80
+unfoldable pub isGood : List ℕ → Bool
+isGood l = every isCharacter l && leb (length l) 80
 
--- a line, and "CR ends a line"
+-- the line that bytes make; a bad one "holds nothing"
+abbrev pub lineIn : List ℕ → List ℕ
+lineIn bytes = cond (isGood (undropped bytes)) (undropped bytes) []
+
+-- bytes, and "CR ends a line"
 abbrev pub ended : List ℕ → List ℕ
-ended l = l ++ (13 ∷ [])
+ended bytes = bytes ++ (13 ∷ [])
 
--- a line, its CR, and "ENQ on an empty line"
+-- these, and "ENQ on an empty line"
 abbrev pub asking : List ℕ → List ℕ
-asking l = ended l ++ (5 ∷ [])
+asking bytes = ended bytes ++ (5 ∷ [])
 
 -- "ETX empties the line, a bad one too, clears the selection"
 abbrev pub anew : List ℕ → List ℕ

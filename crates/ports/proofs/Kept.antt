@@ -6,7 +6,7 @@ use mathlib.Core.Bool.{Bool, true, false, cond, _&&_, _||_}
 use mathlib.Core.Logic.{_≢_}
 use native.Mathlib.Omega.{arith}
 use native.Mathlib.Numerals.{add-one}
-use borrow.Author.Tests.{ltb-true, eqb-true, eqb-false, lt-ltb, le-leb}
+use borrow.Author.Tests.{ltb-true, eqb-true, eqb-false, ne-eqb, lt-ltb, le-leb}
 use lib.ListN.{length, getD, set, take, drop, length-set}
 use lib.Seq.{drop-cons, drop-set-lt, take-suc-set}
 use lib.Dec.{eqb, leb, ltb}
@@ -37,7 +37,7 @@ use Rattle.lines.proofs.Kept.{writes-fitting}
 use Rattle.lines.proofs.Answered.{asks-answers, writes-answers}
 use Rattle.ports.specs.Line.{blank, withLine, emptied, spoilt, grown, held, isEmpty}
 use Rattle.ports.specs.Stream.{intervalOf, withStream, stopped, begun, ticked}
-use Rattle.ports.specs.Hearing.{kindOf, freshPort, withMark, withChoice, selected, concluded, lineEnd, worded, replied, answered, asked, quiet, byKind, heard}
+use Rattle.ports.specs.Hearing.{kindOf, freshPort, withMark, withChoice, selected, concluded, lineEnd, worded, replied, answered, asked, quiet, byKind, heard, settled}
 use Rattle.ports.specs.Limits.{inRange, lineWithin, isInterval, streamWithin, selectionWithin, portWithin, Eighty}
 use Rattle.ports.specs.declared.Port.{Port}
 use Rattle.ports.specs.declared.Selection.{Selection}
@@ -56,6 +56,26 @@ heard-by : (P : Heard → Type 0) (model : Model) (p : Port) (b : ℕ) → P (qu
 unfolding heard
 heard-by P model p b q f =
     cond-cases P (p .ended && eqb b 10) (quiet (withMark p false)) (byKind model (kindOf b) (stopped (withMark p false)) b) (λ _. q) (λ _. f (kindOf b) refl)
+
+-- a byte that is no CR, ETX or ENQ: it is dropped, a character or a byte that spoils the line, and nothing is sent
+module _ (P : Heard → Type 0) (model : Model) (p : Port) (b : ℕ) (cr : b ≢ 13) (etx : b ≢ 3) (enq : b ≢ 5)
+    (kept : eqb b 10 || eqb b 32 ≡ true → P (quiet (withMark p false))) (settles : eqb b 10 || eqb b 32 ≡ true → P (quiet (settled p)))
+    (grows : eqb b 10 || eqb b 32 ≡ false → ltb 32 b && ltb b 127 ≡ true → P (quiet (grown (settled p) b)))
+    (spoils : eqb b 10 || eqb b 32 ≡ false → ltb 32 b && ltb b 127 ≡ false → P (quiet (spoilt (settled p)))) where
+  inner-kind : P (byKind model (kindOf b) (settled p) b)
+  unfolding byKind kindOf
+  inner-kind = rw (ne-eqb b 13 cr, ne-eqb b 3 etx, ne-eqb b 5 enq) (by (eqb b 10 || eqb b 32) refl (ltb 32 b && ltb b 127) refl)
+    where
+      by : (d : Bool) → eqb b 10 || eqb b 32 ≡ d → (c : Bool) → ltb 32 b && ltb b 127 ≡ c → P (byKind model (cond d Dropped (cond c Character Spoiling)) (settled p) b)
+      by true e c f = settles e
+      by false e true f = grows e f
+      by false e false f = spoils e f
+
+  pub inner-by : P (heard model p b)
+  unfolding heard
+  inner-by =
+      cond-cases P (p .ended && eqb b 10) (quiet (withMark p false)) (byKind model (kindOf b) (settled p) b)
+      (λ e. kept (rw (and-true (p .ended) (eqb b 10) e .1))) (λ _. inner-kind)
 
 asked-by : (P : Heard → Type 0) (p : Port) → P (worded p) → ((m : Mnemonic) → p .selection ≡ Chosen m → P (replied p m)) → P (asked p)
 unfolding asked

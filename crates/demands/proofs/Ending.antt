@@ -1,0 +1,160 @@
+-- What stands in a port of a line, and what ends it: its CR, the ENQ behind it, the ETX before it.
+use Prim.Native.Nat.{ℕ}
+use mathlib.Core.Path.{_≡_, refl, ap}
+use mathlib.Core.List.{List, []}
+use mathlib.Core.Bool.{Bool, true, false, cond, and-false}
+use lib.ListN.{length, take}
+use lib.Dec.{eqb}
+use Rattle.settings.specs.Mnemonics.{isErr}
+use Rattle.settings.specs.Rows.{number}
+use Rattle.settings.specs.declared.model.Model.{Model}
+use Rattle.settings.specs.declared.mnemonic.Query.the-variants.{Err}
+use Rattle.settings.specs.declared.mnemonic.Mnemonic.{Mnemonic}
+use Rattle.settings.specs.declared.mnemonic.Mnemonic.the-variants.{Setting as Of, Cf, Query as Asked, Com, Sav}
+use Rattle.settings.specs.declared.rows.Row.{Row}
+use Rattle.lines.specs.Words.{noError, gathered}
+use Rattle.lines.specs.Judging.{judged}
+use Rattle.lines.specs.declared.word.Word.{Word}
+use Rattle.lines.specs.declared.verdict.Verdict.{Verdict}
+use Rattle.lines.specs.declared.verdict.Verdict.the-variants.{Asks, Writes, Refused}
+use Rattle.ports.specs.Line.{emptied, held, isEmpty}
+use Rattle.ports.specs.Stream.{intervalOf, withStream, begun}
+use Rattle.ports.specs.Hearing.{kindOf, withMark, withChoice, selected, concluded, answered, replied, asked, byKind, heard as portHeard, settled}
+use Rattle.ports.specs.declared.Port.{Port}
+use Rattle.ports.specs.declared.Selection.{Selection}
+use Rattle.ports.specs.declared.Selection.the-variants.{Nothing, Of as Chosen}
+use Rattle.shared.specs.Events.{heard}
+use Rattle.shared.specs.Replies.{replyText}
+use Rattle.shared.specs.declared.Shared.{Shared}
+use Rattle.tpg.specs.Steps.{lineText, eventText, acted, next, sent}
+use Rattle.tpg.specs.declared.State.{State}
+use Rattle.demands.specs.Wire.{ended}
+
+-- ---- what a line is in a port
+
+-- the port holds the line, with a selection and an error word beside it
+pub record Line (p : Port) (l : List ℕ) (selection : Selection) (error : Word) : Type 0 where
+  pub good : p .bad ≡ false
+  pub count : p .len ≡ length l
+  pub text : take (p .len) (p .line) ≡ l
+  pub places : length (p .line) ≡ 80
+  pub chosen : p .selection ≡ selection
+  pub word : p .error ≡ error
+
+-- ---- its end
+
+-- the selection and the error word after a line
+abbrev pub choice : Verdict → Selection
+choice (Asks m) = selected m
+choice (Writes m r) = selected m
+choice (Refused x) = Nothing
+
+abbrev pub gathering : Word → Verdict → Word
+gathering error (Asks m) = error
+gathering error (Writes m r) = error
+gathering error (Refused x) = gathered error x
+
+-- another selection and error word beside it
+with-choice : {p : Port} {l : List ℕ} {selection : Selection} {error : Word} → Line p l selection error → (x : Selection) (w v : Word) → w ≡ v → Line (withChoice p x w) l x v
+with-choice h x w v e = record { good = h .good; count = h .count; text = h .text; places = h .places; chosen = refl; word = e }
+
+-- a line that is emptied
+emptied-line : (p : Port) {selection : Selection} {error : Word} → p .selection ≡ selection → p .error ≡ error → Line (emptied p) [] selection error
+emptied-line p chosen word = record { good = refl; count = refl; text = refl; places = refl; chosen = chosen; word = word }
+
+-- the mark after a CR, and the stream, are no part of it
+pub marked-line : {p : Port} {l : List ℕ} {selection : Selection} {error : Word} → Line p l selection error → (ended : Bool) → Line (withMark p ended) l selection error
+marked-line h ended = record { good = h .good; count = h .count; text = h .text; places = h .places; chosen = h .chosen; word = h .word }
+
+streamed-line : {p : Port} {l : List ℕ} {selection : Selection} {error : Word} → Line p l selection error → (interval ticks : ℕ) → Line (withStream p interval ticks) l selection error
+streamed-line h interval ticks = record { good = h .good; count = h .count; text = h .text; places = h .places; chosen = h .chosen; word = h .word }
+
+pub settled-line : {p : Port} {l : List ℕ} {selection : Selection} {error : Word} → Line p l selection error → Line (settled p) l selection error
+settled-line h = streamed-line (marked-line h false) 0 0
+
+begun-line : {p : Port} {l : List ℕ} {selection : Selection} {error : Word} (m : Mnemonic) (r : Row) → Line p l selection error → Line (begun p m r) l selection error
+begun-line (Of x) r h = h
+begun-line (Cf k) r h = h
+begun-line (Asked q) r h = h
+begun-line Com r h = streamed-line h (intervalOf (number r)) 0
+begun-line Sav r h = h
+
+concluded-line : {p : Port} {selection : Selection} {error : Word} → Line p [] selection error → (v : Verdict) → Line (concluded p v) [] (choice v) (gathering error v)
+unfolding concluded
+concluded-line {p} {selection} {error} h (Asks m) = with-choice h (selected m) (p .error) error (h .word)
+concluded-line {p} {selection} {error} h (Writes m r) = begun-line m r (with-choice h (selected m) (p .error) error (h .word))
+concluded-line {p} {selection} {error} h (Refused x) =
+    with-choice h Nothing (gathered (p .error) x) (gathered error x) (ap (λ (w : Word). gathered w x) (h .word))
+
+-- ---- one byte that is no character: CR, ENQ, ETX
+
+-- straight after a CR or not, it is no LF
+no-lf : (model : Model) (p : Port) (b : ℕ) → eqb b 10 ≡ false → portHeard model p b ≡ byKind model (kindOf b) (settled p) b
+unfolding portHeard
+no-lf model p b e = rw (e, and-false (p .ended))
+
+-- what a line comes to: what is sent, what all share, and the port with an empty line again
+pub record Judged (s : Shared) (error : Word) (v : Verdict) (bytes : List ℕ) (next : State) : Type 0 where
+  pub reply : bytes ≡ lineText v
+  pub shared : next .shared ≡ heard s v
+  pub line : Line (next .port) [] (choice v) (gathering error v)
+
+-- what the port holds when a line ends, be it good or bad, with its selection and error word
+pub record Held (p : Port) (l : List ℕ) (selection : Selection) (error : Word) : Type 0 where
+  pub text : held p ≡ l
+  pub chosen : p .selection ≡ selection
+  pub word : p .error ≡ error
+
+pub held-line : {p : Port} {l : List ℕ} {selection : Selection} {error : Word} → Line p l selection error → Held p l selection error
+held-line h = record { text = rw (h .good) (h .text); chosen = h .chosen; word = h .word }
+
+-- what an ENQ on an empty line is answered with, and the error word after it: it is gone where it was sent
+abbrev pub enqText : Shared → Word → Selection → List ℕ
+enqText s error Nothing = replyText s error (Asked Err)
+enqText s error (Chosen m) = replyText s error m
+
+abbrev pub wordLeft : Word → Selection → Word
+wordLeft error Nothing = noError
+wordLeft error (Chosen m) = cond (isErr m) noError error
+
+pub record Replied (s : Shared) (error : Word) (selection : Selection) (bytes : List ℕ) (next : State) : Type 0 where
+  pub reply : bytes ≡ enqText s error selection
+  pub shared : next .shared ≡ s
+  pub line : Line (next .port) [] selection (wordLeft error selection)
+
+replied-line : {p : Port} {m : Mnemonic} {error : Word} → Line p [] (Chosen m) error → Line (replied p m .port) [] (Chosen m) (cond (isErr m) noError error)
+replied-line {p} {m} {error} h = by (isErr m)
+  where
+    by : (t : Bool) → Line (cond t (withChoice p (Chosen m) noError) p) [] (Chosen m) (cond t noError error)
+    by true = with-choice h (Chosen m) noError noError refl
+    by false = h
+
+asked-empty : {p : Port} {selection : Selection} {error : Word} → Line p [] selection error → asked p ≡ answered p selection
+unfolding asked
+asked-empty {p} h = let empty : isEmpty p ≡ true = rw (h .good, h .count) in rw empty (ap (answered p) (h .chosen))
+
+answered-line : (s : Shared) {p : Port} {selection : Selection} {error : Word} → Line p [] selection error
+    → (eventText s (answered p selection .event) ≡ enqText s error selection) × (acted s (answered p selection .event) ≡ s) × Line (answered p selection .port) [] selection (wordLeft error selection)
+unfolding eventText
+answered-line s {p} {selection = Nothing} h = (ap (λ (w : Word). replyText s w (Asked Err)) (h .word), refl, with-choice (emptied-line p (h .chosen) (h .word)) Nothing noError noError refl)
+answered-line s {selection = Chosen m} h = (ap (λ (w : Word). replyText s w m) (h .word), refl, replied-line h)
+
+module _ (s : State) where
+  pub cr-judges : {l : List ℕ} {selection : Selection} {error : Word} → Held (s .port) l selection error
+      → Judged (s .shared) error (judged (s .shared .model) l) (sent s 13) (next s 13)
+  unfolding next sent eventText byKind kindOf
+  cr-judges {l} h =
+      rw (no-lf (s .shared .model) (s .port) 13 refl, h .text)
+      (record { reply = refl; shared = refl; line = concluded-line (marked-line (emptied-line (settled (s .port)) (h .chosen) (h .word)) true) (judged (s .shared .model) l) })
+
+  pub enq-replies : {selection : Selection} {error : Word} → Line (s .port) [] selection error → Replied (s .shared) error selection (sent s 5) (next s 5)
+  unfolding next sent eventText byKind kindOf
+  enq-replies {selection} {error} h =
+      rw (no-lf (s .shared .model) (s .port) 5 refl, asked-empty (settled-line h))
+      (let a = answered-line (s .shared) (settled-line h) in record { reply = a .0; shared = a .1; line = a .2 })
+
+  pub etx-empties : (sent s 3 ≡ []) × (next s 3 .shared ≡ s .shared) × Line (next s 3 .port) [] Nothing (s .port .error)
+  unfolding next sent eventText byKind kindOf
+  etx-empties =
+      rw (no-lf (s .shared .model) (s .port) 3 refl)
+      (refl, refl, record { good = refl; count = refl; text = refl; places = refl; chosen = refl; word = refl })

@@ -42,8 +42,8 @@ use Rattle.tpg.specs.Steps.{next, after, said}
 use Rattle.tpg.specs.declared.State.{State}
 use Rattle.tpg.proofs.Runs.{after-append, said-append}
 use Rattle.tpg.proofs.Kept.{heard-model}
-use Rattle.demands.specs.Wire.{ack, ended, asking, replies, acks}
-use Rattle.demands.specs.Demands.{modelOf, settingsOf, sheetAsked, Boxes, SheetRead, linesOf, SheetCopied, SheetCut, SheetsDecide}
+use Rattle.demands.specs.Wire.{ack, ended, asking, replies, acks, questions, orders}
+use Rattle.demands.specs.Demands.{boxModel, boxSettings, sheetAsked, Boxes, SheetRead, linesOf, SheetCopied, SheetCut, SheetsDecide}
 use Rattle.demands.proofs.Ending.{Line}
 use Rattle.demands.proofs.Typing.{line-judged, line-asked, anew-line, anew-shared, anew-said, anew-after}
 use Rattle.demands.proofs.Spelling.{Character, Typeable, typeable-inner, typeable-line, Short, names-short, name-typeable, setting-characters, line-typeable, name-judged}
@@ -59,13 +59,13 @@ record Asked (model : Model) (x : Setting) : Type 0 where
 
 module _ (shared : Shared) where
   inquired : (xs : List Setting) (s : State) {selection : Selection} {error : Word} → s .shared ≡ shared → Line (s .port) [] selection error → Each (Asked (shared .model)) xs
-      → (said s (flatMap (λ (x : Setting). asking (name (Of x))) xs) ≡ replies (shared .model) (shared .settings) xs)
-      × (after s (flatMap (λ (x : Setting). asking (name (Of x))) xs) .shared ≡ shared)
+      → (said s (questions xs) ≡ replies (shared .model) (shared .settings) xs)
+      × (after s (questions xs) .shared ≡ shared)
   unfolding flatMap after said replyText
   inquired [] s same empty h = (refl, same)
   inquired (x ∷ xs) s {error = error} same empty h =
       let bytes = asking (name (Of x)) in
-      let rest = flatMap (λ (x : Setting). asking (name (Of x))) xs in
+      let rest = questions xs in
       let verdict : judged (s .shared .model) (name (Of x)) ≡ Asks (Of x) = ap (λ (t : Shared). judged (t .model) (name (Of x))) same ∙ h .0 .asks in
       let t = name-typeable (Of x) (h .0 .short) in
       let one = line-asked s empty (name (Of x)) (typeable-inner (name (Of x)) t) (Asks (Of x)) (ap (judged (s .shared .model)) (typeable-line (name (Of x)) t) ∙ verdict) in
@@ -92,29 +92,29 @@ heard-settings s (Refused x) = refl
 module _ (model : Model) (a : Settings) where
   -- what lines make of a box: all are accepted, and its settings are those after the lines
   record Made (xs : List Setting) (s : State) : Type 0 where
-    accepted : said s (flatMap (λ (x : Setting). ended (lineOf model a x)) xs) ≡ acks xs
-    settings : settingsOf (after s (flatMap (λ (x : Setting). ended (lineOf model a x)) xs)) ≡ afterLines model (settingsOf s) (map (lineOf model a) xs)
-    saved : after s (flatMap (λ (x : Setting). ended (lineOf model a x)) xs) .shared .saved ≡ s .shared .saved
-    readings : after s (flatMap (λ (x : Setting). ended (lineOf model a x)) xs) .shared .readings ≡ s .shared .readings
+    accepted : said s (orders model a xs) ≡ acks xs
+    settings : boxSettings (after s (orders model a xs)) ≡ afterLines model (boxSettings s) (map (lineOf model a) xs)
+    saved : after s (orders model a xs) .shared .saved ≡ s .shared .saved
+    readings : after s (orders model a xs) .shared .readings ≡ s .shared .readings
 
-  commanded : (xs : List Setting) (s : State) {selection : Selection} {error : Word} → modelOf s ≡ model → Line (s .port) [] selection error → Each (Sent model a) xs → Made xs s
+  commanded : (xs : List Setting) (s : State) {selection : Selection} {error : Word} → boxModel s ≡ model → Line (s .port) [] selection error → Each (Sent model a) xs → Made xs s
   unfolding flatMap after said written
   commanded [] s same empty h = record { accepted = refl; settings = refl; saved = refl; readings = refl }
   commanded (x ∷ xs) s same empty h =
       let line = lineOf model a x in
       let bytes = ended line in
-      let rest = flatMap (λ (x : Setting). ended (lineOf model a x)) xs in
+      let rest = orders model a xs in
       let v = Writes (Of x) (h .0 .row) in
-      let verdict : judged (modelOf s) line ≡ v = ap (λ (m : Model). judged m line) same ∙ h .0 .writes in
+      let verdict : judged (boxModel s) line ≡ v = ap (λ (m : Model). judged m line) same ∙ h .0 .writes in
       let t = h .0 .typeable in
-      let one = line-judged s empty line (typeable-inner line t) v (ap (judged (modelOf s)) (typeable-line line t) ∙ verdict) in
+      let one = line-judged s empty line (typeable-inner line t) v (ap (judged (boxModel s)) (typeable-line line t) ∙ verdict) in
       let now = after s bytes in
       let all = commanded xs now (ap (λ (t : Shared). t .model) (one .shared) ∙ heard-model (s .shared) v ∙ same) (one .line) (h .1) in
-      let set : settingsOf now ≡ effect model (settingsOf s) (judged model line) =
-      ap (λ (t : Shared). t .settings) (one .shared) ∙ heard-settings (s .shared) v ∙ ap₂ (λ (m : Model) (u : Verdict). effect m (settingsOf s) u) same (sym (h .0 .writes)) in
+      let set : boxSettings now ≡ effect model (boxSettings s) (judged model line) =
+      ap (λ (t : Shared). t .settings) (one .shared) ∙ heard-settings (s .shared) v ∙ ap₂ (λ (m : Model) (u : Verdict). effect m (boxSettings s) u) same (sym (h .0 .writes)) in
       record {
         accepted = said-append bytes rest s ∙ ap₂ (λ (t u : List ℕ). t ++ u) (one .reply) (all .accepted);
-        settings = ap settingsOf (after-append bytes rest s) ∙ all .settings ∙ ap (λ (t : Settings). afterLines model t (map (lineOf model a) xs)) set;
+        settings = ap boxSettings (after-append bytes rest s) ∙ all .settings ∙ ap (λ (t : Settings). afterLines model t (map (lineOf model a) xs)) set;
         saved = ap (λ (t : State). t .shared .saved) (after-append bytes rest s) ∙ all .saved ∙ ap (λ (t : Shared). t .saved) (one .shared);
         readings = ap (λ (t : State). t .shared .readings) (after-append bytes rest s) ∙ all .readings ∙ ap (λ (t : Shared). t .readings) (one .shared);
       }
@@ -131,69 +131,69 @@ sheet-asked model =
     (λ x sp short. record { short = short; asks = name-judged model (Of x) sp (some-channel model) }) (sheet model)
     (sheet-each (Spelt model) model (all-spelt model)) (sheet-each (λ (m : Mnemonic). Short (name m)) model (names-short model))
 
-settings-within : (s : State) → Sound s → within (modelOf s) (settingsOf s) ≡ true
+settings-within : (s : State) → Sound s → within (boxModel s) (boxSettings s) ≡ true
 unfolding stateWithin
-settings-within s k = shared.parts (s .shared) (and-true (sharedWithin (s .shared)) (portWithin (modelOf s) (s .port)) (k .within) .0) .settings
+settings-within s k = shared.parts (s .shared) (and-true (sharedWithin (s .shared)) (portWithin (boxModel s) (s .port)) (k .within) .0) .settings
 
-sheet-sent : (a : State) → Sound a → Each (Sent (modelOf a) (settingsOf a)) (sheet (modelOf a))
+sheet-sent : (a : State) → Sound a → Each (Sent (boxModel a) (boxSettings a)) (sheet (boxModel a))
 sheet-sent a k =
-    let model = modelOf a in
-    each-both (λ (x : Setting). Short (name (Of x))) _ (Sent model (settingsOf a))
-    (λ x short e. record { typeable = line-typeable model (settingsOf a) x short; row = rowOf (cells model (settingsOf a) x); writes = e }) (sheet model)
-    (sheet-each (λ (m : Mnemonic). Short (name m)) model (names-short model)) (sheet-accepted model (settingsOf a) (settings-within a k))
+    let model = boxModel a in
+    each-both (λ (x : Setting). Short (name (Of x))) _ (Sent model (boxSettings a))
+    (λ x short e. record { typeable = line-typeable model (boxSettings a) x short; row = rowOf (cells model (boxSettings a) x); writes = e }) (sheet model)
+    (sheet-each (λ (m : Mnemonic). Short (name m)) model (names-short model)) (sheet-accepted model (boxSettings a) (settings-within a k))
 
 -- ---- the four theorems
 
 pub sheet-read : SheetRead said after
 sheet-read a k =
-    let all = inquired (a .shared) (sheet (modelOf a)) (next a 3) (anew-shared a) (anew-line a) (sheet-asked (modelOf a)) in
-    (anew-said a _ ∙ all .0, ap settingsOf (anew-after a _) ∙ ap (λ (t : Shared). t .settings) (all .1))
+    let all = inquired (a .shared) (sheet (boxModel a)) (next a 3) (anew-shared a) (anew-line a) (sheet-asked (boxModel a)) in
+    (anew-said a _ ∙ all .0, ap boxSettings (anew-after a _) ∙ ap (λ (t : Shared). t .settings) (all .1))
 
 module _ (a b : State) (both : Boxes a b) where
-  made : (xs : List Setting) → Each (Sent (modelOf a) (settingsOf a)) xs → Made (modelOf a) (settingsOf a) xs (next b 3)
-  made xs = commanded (modelOf a) (settingsOf a) xs (next b 3) (ap (λ (t : Shared). t .model) (anew-shared b) ∙ sym (both .model)) (anew-line b)
+  made : (xs : List Setting) → Each (Sent (boxModel a) (boxSettings a)) xs → Made (boxModel a) (boxSettings a) xs (next b 3)
+  made xs = commanded (boxModel a) (boxSettings a) xs (next b 3) (ap (λ (t : Shared). t .model) (anew-shared b) ∙ sym (both .model)) (anew-line b)
 
   -- the settings after lines of the sheet, and what no line of it changes
-  copied : (xs : List Setting) → Each (Sent (modelOf a) (settingsOf a)) xs
-      → settingsOf (after b (linesOf a xs)) ≡ afterLines (modelOf a) (settingsOf b) (map (lineOf (modelOf a) (settingsOf a)) xs)
+  copied : (xs : List Setting) → Each (Sent (boxModel a) (boxSettings a)) xs
+      → boxSettings (after b (linesOf a xs)) ≡ afterLines (boxModel a) (boxSettings b) (map (lineOf (boxModel a) (boxSettings a)) xs)
   copied xs h =
-      ap settingsOf (anew-after b _) ∙ made xs h .settings
-      ∙ ap (λ (t : Shared). afterLines (modelOf a) (t .settings) (map (lineOf (modelOf a) (settingsOf a)) xs)) (anew-shared b)
+      ap boxSettings (anew-after b _) ∙ made xs h .settings
+      ∙ ap (λ (t : Shared). afterLines (boxModel a) (t .settings) (map (lineOf (boxModel a) (boxSettings a)) xs)) (anew-shared b)
 
   -- no line of the sheet touches the saved set or a reading
-  pub copy-keeps : (n : ℕ) → let c = after b (linesOf a (take n (sheet (modelOf a)))) in
+  pub copy-keeps : (n : ℕ) → let c = after b (linesOf a (take n (sheet (boxModel a)))) in
       (c .shared .saved ≡ b .shared .saved) × (c .shared .readings ≡ b .shared .readings)
   copy-keeps n =
-      let m = made (take n (sheet (modelOf a))) (each-take (Sent (modelOf a) (settingsOf a)) n (sheet (modelOf a)) (sheet-sent a (both .first))) in (
+      let m = made (take n (sheet (boxModel a))) (each-take (Sent (boxModel a) (boxSettings a)) n (sheet (boxModel a)) (sheet-sent a (both .first))) in (
         ap (λ (t : State). t .shared .saved) (anew-after b _) ∙ m .saved ∙ ap (λ (t : Shared). t .saved) (anew-shared b),
         ap (λ (t : State). t .shared .readings) (anew-after b _) ∙ m .readings ∙ ap (λ (t : Shared). t .readings) (anew-shared b),
       )
 
   -- the second box within the limits of the first one's model
-  own : within (modelOf a) (settingsOf b) ≡ true
-  own = subst (λ m. within m (settingsOf b) ≡ true) (sym (both .model)) (settings-within b (both .second))
+  own : within (boxModel a) (boxSettings b) ≡ true
+  own = subst (λ m. within m (boxSettings b) ≡ true) (sym (both .model)) (settings-within b (both .second))
 
 pub sheet-copied : SheetCopied said after
 sheet-copied a b both =
-    let model = modelOf a in
+    let model = boxModel a in
     let sent = sheet-sent a (both .first) in (
       anew-said b _ ∙ made a b both (sheet model) sent .accepted,
       copied a b both (sheet model) sent
-          ∙ whole-copy model (settingsOf a) (settingsOf b) (both .first .formed .shared .settings) (both .second .formed .shared .settings)
+          ∙ whole-copy model (boxSettings a) (boxSettings b) (both .first .formed .shared .settings) (both .second .formed .shared .settings)
           (settings-within a (both .first)) (own a b both),
     )
 
 pub sheet-cut : SheetCut said after
 sheet-cut a b both n =
-    let model = modelOf a in
-    let sent = each-take (Sent model (settingsOf a)) n (sheet model) (sheet-sent a (both .first)) in
+    let model = boxModel a in
+    let sent = each-take (Sent model (boxSettings a)) n (sheet model) (sheet-sent a (both .first)) in
     let e = copied a b both (take n (sheet model)) sent in
     let sa = both .first .formed .shared .settings in
     let sb = both .second .formed .shared .settings in
     let wa = settings-within a (both .first) in (
       anew-said b _ ∙ made a b both (take n (sheet model)) sent .accepted,
-      rw e (cut-named model (settingsOf a) (settingsOf b) sa sb wa (own a b both) n),
-      rw e (cut-others model (settingsOf a) (settingsOf b) sa sb wa (own a b both) n),
+      rw e (cut-named model (boxSettings a) (boxSettings b) sa sb wa (own a b both) n),
+      rw e (cut-others model (boxSettings a) (boxSettings b) sa sb wa (own a b both) n),
     )
 
 -- ---- a sheet tells the settings
@@ -225,12 +225,12 @@ replies-texts model a b (x ∷ xs) e =
 
 pub sheets-decide : SheetsDecide said
 sheets-decide a b both =
-    let model = modelOf a in
+    let model = boxModel a in
     let first = sheet-read a (both .first) .0 in
-    let second : said b (sheetAsked b) ≡ replies model (settingsOf b) (sheet model) =
-    sheet-read b (both .second) .0 ∙ ap (λ (m : Model). replies m (settingsOf b) (sheet m)) (sym (both .model)) in
-    let decide = equal-sheets model (settingsOf a) (settingsOf b) (both .first .formed .shared .settings) (both .second .formed .shared .settings)
+    let second : said b (sheetAsked b) ≡ replies model (boxSettings b) (sheet model) =
+    sheet-read b (both .second) .0 ∙ ap (λ (m : Model). replies m (boxSettings b) (sheet m)) (sym (both .model)) in
+    let decide = equal-sheets model (boxSettings a) (boxSettings b) (both .first .formed .shared .settings) (both .second .formed .shared .settings)
     (settings-within a (both .first)) (own a b both) in (
-      (λ e. decide .0 (replies-texts model (settingsOf a) (settingsOf b) (sheet model) (sym first ∙ e ∙ second))),
+      (λ e. decide .0 (replies-texts model (boxSettings a) (boxSettings b) (sheet model) (sym first ∙ e ∙ second))),
       (λ e. first ∙ ap (λ (s : Settings). replies model s (sheet model)) e ∙ sym second),
     )

@@ -44,7 +44,7 @@ use Rattle.tpg.specs.Steps.{eventText, next, sent, after}
 use Rattle.tpg.specs.declared.State.{State}
 use Rattle.tpg.proofs.Kept.{fresh-sound, after-sound, after-model}
 use Rattle.demands.specs.Wire.{ended}
-use Rattle.demands.specs.Demands.{Says, Becomes, Reads, Replies, modelOf, settingsOf, Boxes, SheetCopied, linesOf, NaksAll, BlindToLines, BlindToStates, Forgets}
+use Rattle.demands.specs.Demands.{Says, Becomes, Reads, Replies, boxModel, boxSettings, Boxes, SheetCopied, linesOf, NaksAll, BlindToLines, BlindToStates, Forgets}
 
 abbrev fresh : Model → State
 fresh model = freshBox model 0
@@ -64,8 +64,8 @@ naks-all says becomes copied naks =
 -- ---- one that always sends the same reply
 
 -- the settings of a box are read as demand 2 says
-read : (says : Says) → Replies says → (s : State) → Sound s → Each (λ (x : Setting). Reads says s (Of x)) (sheet (modelOf s))
-read says replies s k = sheet-each (λ (m : Mnemonic). Reads says s m) (modelOf s) (each-map _ (λ (m : Mnemonic). Reads says s m) (λ m both. both .0) (known (modelOf s)) (replies s k))
+read : (says : Says) → Replies says → (s : State) → Sound s → Each (λ (x : Setting). Reads says s (Of x)) (sheet (boxModel s))
+read says replies s k = sheet-each (λ (m : Mnemonic). Reads says s m) (boxModel s) (each-map _ (λ (m : Mnemonic). Reads says s m) (λ m both. both .0) (known (boxModel s)) (replies s k))
 
 -- a fresh 362 answers 4 for its unit and 2,2 for its filters
 pub blind-to-lines : (says : Says) → Replies says → BlindToLines says → ⊥
@@ -106,7 +106,7 @@ changed model x = after (fresh model) (ended (joined (name (Of x) ∷ take (coun
 
 -- is not what it was
 moved : Model → Setting → Bool
-moved model x = not (same (settingText model (settingsOf (changed model x)) x) (settingText model (defaults model) x))
+moved model x = not (same (settingText model (boxSettings (changed model x)) x) (settingText model (defaults model) x))
 
 all-moved : (model : Model) → every (moved model) (sheet model) ≡ true
 unfolding moved changed others bare climbWithin five power rounded fittedTo lead rest headIs value numberOf behindPoint factorOf afterPlus afterSign powerOf judgedNumeral fraction afterFraction thresholdOf scientific every known same found recognised storedKinds fields limited readings formed valued withFields judged settingText grown kindOf concluded asked byKind heard written eventText next sent after
@@ -123,7 +123,7 @@ changed-sound : (model : Model) (x : Setting) → Sound (changed model x)
 unfolding changed
 changed-sound model x = after-sound _ (fresh model) (fresh-sound model 0 refl)
 
-changed-model : (model : Model) (x : Setting) → modelOf (changed model x) ≡ model
+changed-model : (model : Model) (x : Setting) → boxModel (changed model x) ≡ model
 unfolding changed
 changed-model model x = after-model _ (fresh model)
 
@@ -137,12 +137,12 @@ stores model x m says becomes copied forgets =
     let a = changed model x in
     let b = fresh model in
     let both : Boxes a b = record { first = changed-sound model x; second = fresh-sound model 0 refl; model = changed-model model x } in
-    let sent = linesOf a (sheet (modelOf a)) in
-    let equal : cells model (settingsOf a) x ≡ cells model (defaults model) x = ap (λ (s : Settings). cells model s x) (sym (copied a b both .1)) ∙ forgets b sent in
+    let sent = linesOf a (sheet (boxModel a)) in
+    let equal : cells model (boxSettings a) x ≡ cells model (defaults model) x = ap (λ (s : Settings). cells model s x) (sym (copied a b both .1)) ∙ forgets b sent in
     let text = settingText model (defaults model) x in
-    let found : same (settingText model (settingsOf a) x) text ≡ true =
+    let found : same (settingText model (boxSettings a) x) text ≡ true =
     ap (λ (cs : List Threshold). same (joined (texts (kinds model (Of x)) cs)) text) equal ∙ same-self text in
-    let differs = not-true (same (settingText model (settingsOf a) x) text) m in
+    let differs = not-true (same (settingText model (boxSettings a) x) text) m in
     never (cc)
 
 -- demand 3, "the settings are equal": whichever setting of the sheet it is that a program never stores

@@ -12,7 +12,7 @@ use Rattle.tpg.specs.States.{Sound}
 use Rattle.tpg.specs.Steps.{after, said}
 use Rattle.tpg.specs.declared.State.{State}
 use Rattle.demands.specs.Turns.{Plan, saysOver, becomesOver}
-use Rattle.demands.specs.Demands.{Says, Becomes, Reads, WritesBack, modelOf, settingsOf, Meets}
+use Rattle.demands.specs.Demands.{Says, Becomes, Reads, WritesBack, boxModel, boxSettings, Meets}
 use Rattle.demands.proofs.Splitting.{split, one-turn}
 use Rattle.demands.proofs.Replying.{line-answered, mnemonics-answered}
 use Rattle.demands.proofs.Copying.{sheet-read, sheet-copied, sheet-cut, sheets-decide}
@@ -25,9 +25,9 @@ agreed : (says : Says) (becomes : Becomes) → Agrees says becomes → Meets say
 agreed says becomes g = record {
   answers = (λ s k bytes inner. g s k _ .0 ∙ line-answered s k bytes inner);
   replies = (λ s k. each-map (λ (m : Mnemonic). Reads said s m × WritesBack said s m) (λ (m : Mnemonic). Reads says s m × WritesBack says s m)
-      (λ m both. ((λ a. g s k _ .0 ∙ both .0 a), (λ l r t e. g s k _ .0 ∙ both .1 l r t e))) (known (modelOf s)) (mnemonics-answered s k));
-  read = (λ a k. (g a k _ .0 ∙ sheet-read a k .0, ap settingsOf (g a k _ .1) ∙ sheet-read a k .1));
-  copied = (λ a b both. let k = both .second in (g b k _ .0 ∙ sheet-copied a b both .0, ap settingsOf (g b k _ .1) ∙ sheet-copied a b both .1));
+      (λ m both. ((λ a. g s k _ .0 ∙ both .0 a), (λ l r t e. g s k _ .0 ∙ both .1 l r t e))) (known (boxModel s)) (mnemonics-answered s k));
+  read = (λ a k. (g a k _ .0 ∙ sheet-read a k .0, ap boxSettings (g a k _ .1) ∙ sheet-read a k .1));
+  copied = (λ a b both. let k = both .second in (g b k _ .0 ∙ sheet-copied a b both .0, ap boxSettings (g b k _ .1) ∙ sheet-copied a b both .1));
   cut = (λ a b both n. let c = sheet-cut a b both n in let h = g b (both .second) _ in (h .0 ∙ c .0, rw (h .1) (c .1), rw (h .1) (c .2)));
   decide = (λ a b both.
       let d = sheets-decide a b both in

@@ -2,14 +2,13 @@
 use Prim.Native.Nat.{ℕ, _+_, _≤_, _<_}
 use mathlib.Core.Path.{_≡_, refl, sym, ap, ap₂, subst, _∙_}
 use mathlib.Core.List.{List, [], _∷_, _++_, append-assoc, append-nil}
-use mathlib.Core.Bool.{true, false, cond, _||_, and-false}
+use mathlib.Core.Bool.{true, false, cond, and-false}
 use mathlib.Core.Logic.{⊎-elim}
 use native.Mathlib.Omega.{arith}
 use native.Mathlib.Numerals.{add-one}
 use borrow.Author.Tests.{lt-ltb, le-ltb, lt-leb, le-leb}
 use lib.ListN.{length, length-set, length-append}
 use lib.Seq.{take-suc-set}
-use lib.Dec.{eqb}
 use Rattle.settings.specs.Lists.{every, Each}
 use Rattle.settings.proofs.Lists.{each-append, each-every}
 use Rattle.numbers.proofs.Cases.{below}
@@ -31,7 +30,7 @@ use Rattle.shared.specs.declared.Shared.{Shared}
 use Rattle.tpg.specs.Steps.{lineText, eventText, acted, hearing, next, sent, after, said}
 use Rattle.tpg.specs.declared.State.{State}
 use Rattle.tpg.proofs.Runs.{after-append, said-append}
-use Rattle.demands.specs.Wire.{Inner, undropped, isCharacter, isGood, lineIn, ended, asking, anew}
+use Rattle.demands.specs.Wire.{Inner, isDropped, undropped, isCharacter, isGood, lineIn, ended, asking, anew}
 use Rattle.demands.proofs.Ending.{Line, choice, gathering, marked-line, settled-line, Judged, Held, held-line, enqText, wordLeft, cr-judges, enq-replies, etx-empties}
 
 -- ---- the bytes of a line
@@ -79,9 +78,9 @@ module _ (s : State) (b : ℕ) (bytes l : List ℕ) (selection : Selection) (err
         line = subst (λ x. Held (after x bytes .port) l selection error) (sym now) (t .line);
       }
 
-  byte-typed : Inner b → (eqb b 10 || eqb b 32 ≡ true → Rest (withMark (s .port) false)) → (eqb b 10 || eqb b 32 ≡ true → Rest (settled (s .port)))
-      → (eqb b 10 || eqb b 32 ≡ false → isCharacter b ≡ true → Rest (grown (settled (s .port)) b))
-      → (eqb b 10 || eqb b 32 ≡ false → isCharacter b ≡ false → Rest (spoilt (settled (s .port)))) → Typed s (b ∷ bytes) l selection error
+  byte-typed : Inner b → (isDropped b ≡ true → Rest (withMark (s .port) false)) → (isDropped b ≡ true → Rest (settled (s .port)))
+      → (isDropped b ≡ false → isCharacter b ≡ true → Rest (grown (settled (s .port)) b))
+      → (isDropped b ≡ false → isCharacter b ≡ false → Rest (spoilt (settled (s .port)))) → Typed s (b ∷ bytes) l selection error
   byte-typed inner kept settles grows spoils =
       first-typed
       (inner-by Silently (s .shared .model) (s .port) b (inner .0) (inner .1) (inner .2)

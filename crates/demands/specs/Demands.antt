@@ -55,53 +55,53 @@ Replies says = (s : State) → Sound s → Each (λ (m : Mnemonic). Reads says s
 
 -- ---- demand 3
 
-abbrev pub modelOf : State → Model
-modelOf s = s .shared .model
+abbrev pub boxModel : State → Model
+boxModel s = s .shared .model
 
-abbrev pub settingsOf : State → Settings
-settingsOf s = s .shared .settings
+abbrev pub boxSettings : State → Settings
+boxSettings s = s .shared .settings
 
 -- what is sent to a box to read its sheet
 abbrev pub sheetAsked : State → List ℕ
-sheetAsked s = inquiries (sheet (modelOf s))
+sheetAsked s = inquiries (sheet (boxModel s))
 
 -- one box and "another of the model", in any two states that boxes can be in: "whatever came before"
 pub record Boxes (a b : State) : Type 0 where
   pub first : Sound a
   pub second : Sound b
-  pub model : modelOf a ≡ modelOf b
+  pub model : boxModel a ≡ boxModel b
 
 -- "A sheet of settings read from one box": an ACK and the reply of each setting come back, and the settings stay
 abbrev pub SheetRead : Says → Becomes → Type 0
 SheetRead says becomes =
     (a : State) → Sound a
-    → (says a (sheetAsked a) ≡ replies (modelOf a) (settingsOf a) (sheet (modelOf a))) × (settingsOf (becomes a (sheetAsked a)) ≡ settingsOf a)
+    → (says a (sheetAsked a) ≡ replies (boxModel a) (boxSettings a) (sheet (boxModel a))) × (boxSettings (becomes a (sheetAsked a)) ≡ boxSettings a)
 
 -- the lines of a's sheet for some of its settings
 abbrev pub linesOf : State → List Setting → List ℕ
-linesOf a xs = commands (modelOf a) (settingsOf a) xs
+linesOf a xs = commands (boxModel a) (boxSettings a) xs
 
 -- "and sent to another of the model is accepted and makes their settings equal"
 abbrev pub SheetCopied : Says → Becomes → Type 0
 SheetCopied says becomes =
     (a b : State) → Boxes a b
-    → (says b (linesOf a (sheet (modelOf a))) ≡ acks (sheet (modelOf a))) × (settingsOf (becomes b (linesOf a (sheet (modelOf a)))) ≡ settingsOf a)
+    → (says b (linesOf a (sheet (boxModel a))) ≡ acks (sheet (boxModel a))) × (boxSettings (becomes b (linesOf a (sheet (boxModel a)))) ≡ boxSettings a)
 
 -- a setting of a model is the same in two boxes
 abbrev pub Same : Model → State → State → Setting → Type 0
-Same model a b x = cells model (settingsOf a) x ≡ cells model (settingsOf b) x
+Same model a b x = cells model (boxSettings a) x ≡ cells model (boxSettings b) x
 
 -- "cut after any whole line, exactly the settings named so far are equal": the lines are accepted, and the other settings are the second box's own
 abbrev pub SheetCut : Says → Becomes → Type 0
 SheetCut says becomes =
     (a b : State) → Boxes a b → (n : ℕ)
-    → let named = take n (sheet (modelOf a)) in
+    → let named = take n (sheet (boxModel a)) in
     let c = becomes b (linesOf a named) in
-    (says b (linesOf a named) ≡ acks named) × Each (Same (modelOf a) c a) named × Each (Same (modelOf a) c b) (drop n (sheet (modelOf a)))
+    (says b (linesOf a named) ≡ acks named) × Each (Same (boxModel a) c a) named × Each (Same (boxModel a) c b) (drop n (sheet (boxModel a)))
 
 -- "Equal sheets exactly when equal settings."
 abbrev pub SheetsDecide : Says → Type 0
-SheetsDecide says = (a b : State) → Boxes a b → (says a (sheetAsked a) ≡ says b (sheetAsked b)) ↔ (settingsOf a ≡ settingsOf b)
+SheetsDecide says = (a b : State) → Boxes a b → (says a (sheetAsked a) ≡ says b (sheetAsked b)) ↔ (boxSettings a ≡ boxSettings b)
 
 -- demands 2 and 3 together
 pub record Meets (says : Says) (becomes : Becomes) : Type 0 where
@@ -139,4 +139,4 @@ BlindToStates says = (s t : State) (l : List ℕ) → says s (anew (asking l)) �
 
 -- "one that ACKs and stores nothing", or only the first line of a sheet: there is a setting that it never stores
 abbrev pub Forgets : Becomes → Setting → Type 0
-Forgets becomes x = (s : State) (bytes : List ℕ) → Same (modelOf s) (becomes s bytes) s x
+Forgets becomes x = (s : State) (bytes : List ℕ) → Same (boxModel s) (becomes s bytes) s x

@@ -40,9 +40,13 @@ abbrev pub Inner : ℕ → Type 0
 Inner b = (b ≢ 13) × (b ≢ 3) × (b ≢ 5)
 
 -- "Any other LF, and every space, is dropped."
+abbrev pub isDropped : ℕ → Bool
+isDropped b = eqb b 10 || eqb b 32
+
+-- the other bytes
 unfoldable pub undropped : List ℕ → List ℕ
 undropped [] = []
-undropped (b ∷ bytes) = cond (eqb b 10 || eqb b 32) (undropped bytes) (b ∷ undropped bytes)
+undropped (b ∷ bytes) = cond (isDropped b) (undropped bytes) (b ∷ undropped bytes)
 
 -- not "a byte below 32 .., or one of 127 and above"; the space is dropped
 abbrev pub isCharacter : ℕ → Bool
@@ -88,16 +92,22 @@ writtenText s error Com r = replyText s error (Asked Err)
 writtenText s error Sav r = replyText s error (Asked Err)
 
 -- a sheet is read: an ETX, and each mnemonic with CR and ENQ
+abbrev pub questions : List Setting → List ℕ
+questions = flatMap (λ (x : Setting). asking (name (Of x)))
+
 abbrev pub inquiries : List Setting → List ℕ
-inquiries xs = anew (flatMap (λ (x : Setting). asking (name (Of x))) xs)
+inquiries xs = anew (questions xs)
 
 -- what comes back: an ACK and the reply of each
 abbrev pub replies : Model → Settings → List Setting → List ℕ
 replies model s = flatMap (λ (x : Setting). ack ++ (settingText model s x ++ lineEnd))
 
 -- a sheet is sent: an ETX, and each mnemonic, a comma and its reply, with CR
+abbrev pub orders : Model → Settings → List Setting → List ℕ
+orders model s = flatMap (λ (x : Setting). ended (lineOf model s x))
+
 abbrev pub commands : Model → Settings → List Setting → List ℕ
-commands model s xs = anew (flatMap (λ (x : Setting). ended (lineOf model s x)) xs)
+commands model s xs = anew (orders model s xs)
 
 -- "all are accepted": an ACK for each
 abbrev pub acks : List Setting → List ℕ

@@ -2,7 +2,7 @@
 use Prim.Native.Nat.{ℕ, _+_, _*_, _-_, _≤_, _<_}
 use mathlib.Core.Path.{_≡_, refl, sym, ap, _∙_}
 use mathlib.Core.List.{List, [], _∷_, _++_}
-use mathlib.Core.Bool.{Bool, true, false, _&&_}
+use mathlib.Core.Bool.{true, false, _&&_, and-false}
 use mathlib.Core.Logic.{_⊎_, inl, inr}
 use native.Mathlib.Omega.{arith}
 use borrow.Author.Tests.{le-leb, lt-leb, leb-false, ne-eqb}
@@ -28,20 +28,20 @@ unhex-length [] e = refl
 unhex-length (a ∷ []) e = never (cc)
 unhex-length (a ∷ b ∷ l) e = omega (arith, unhex-length l (and-true (isDigit a && isDigit b) (isHex l) e .1))
 
-and-false : (t u : Bool) → u ≡ false → t && u ≡ false
-and-false true u e = e
-and-false false u e = refl
-
 pub too-many : (s : State) (f : List ℕ) → longestFrame < length f → framed s f ≡ noFrame s
 unfolding framed
 too-many s f h =
     let first = getD f 0 0 in
     rw (
-      and-false (eqb first 1) (leb (length f) longestFrame) (lt-leb (length f) longestFrame h),
-      and-false (eqb first 2) (eqb (length f) 9) (ne-eqb (length f) 9 (λ (e : length f ≡ 9). never (omega (arith, e)))),
-      and-false (eqb first 3) (eqb (length f) 2) (ne-eqb (length f) 2 (λ (e : length f ≡ 2). never (omega (arith, e)))),
-      and-false (eqb first 4) (eqb (length f) 2) (ne-eqb (length f) 2 (λ (e : length f ≡ 2). never (omega (arith, e)))),
-      and-false (eqb first 5) (eqb (length f) 1) (ne-eqb (length f) 1 (λ (e : length f ≡ 1). never (omega (arith, e)))),
+      lt-leb (length f) longestFrame h,
+      ne-eqb (length f) 9 (λ (e : length f ≡ 9). never (omega (arith, e))),
+      ne-eqb (length f) 2 (λ (e : length f ≡ 2). never (omega (arith, e))),
+      ne-eqb (length f) 1 (λ (e : length f ≡ 1). never (omega (arith, e))),
+      and-false (eqb first 1),
+      and-false (eqb first 2),
+      and-false (eqb first 3),
+      and-false (eqb first 4),
+      and-false (eqb first 5),
     )
 
 -- what was read gives the reply of the whole line

@@ -9,7 +9,7 @@ use lib.Dec.{eqb, leb}
 use lib.IntN.{pos, negsuc, natAbs, _-ℤ_}
 use lib.ListN.{length}
 use Rattle.text.specs.Text.{ascii}
-use Rattle.text.proofs.Texts.{whole-digit}
+use Rattle.text.proofs.Decimals.{whole-digit}
 use Rattle.numbers.specs.Numbers.{between, isZero, isFive, isNumber, isBelow, isAbove, signed}
 use Rattle.numbers.specs.Rounding.{isUsable, scaledBy, Nearest}
 use Rattle.numbers.specs.declared.threshold.Threshold.{Threshold}

@@ -1,13 +1,15 @@
 // What is shown of a reading in the unit chosen: its text, and the switching by it.
 ghost use mathlib.Core.Path.{_≡_};
-ghost use Rattle.text.specs.Text.{puts};
+ghost use Rattle.text.specs.Page.{page, puts};
 ghost use Rattle.gauges.specs.Shown.{inHpa, shownOf, shownText, switched};
 use crate::reading::Reading;
 use crate::units::from_hpa;
 use numbers::threshold::Threshold;
 use numbers::value::Value;
 use numerals::writing::value_bytes;
-use text::Text;
+use text::append;
+use text::digits::whole;
+use text::put;
 
 // A reading as it is shown: its status, and its value in the unit chosen.
 pub struct Shown {
@@ -56,13 +58,15 @@ impl Shown {
     }
 }
 
-// The text with a shown reading put behind it; a status of one digit goes with the value, without a search for leading zeros.
-pub fn write_shown(t: Text, s: Shown) -> Text
-    ensures { λ r. ⌜ r ≡ puts t (shownText s) ⌝ }
+// A shown reading put into out from `at` on; a status of one digit goes with the value, without a search for leading zeros.
+pub fn write_shown(out: &mut [u8], at: usize, s: Shown) -> usize
+    ensures { λ r. ⌜ page (now (out .exit)) r ≡ puts (page (now (out .entry)) at) (shownText s) ⌝ }
 {
     let b = value_bytes(s.value);
     if s.status < 10 {
-        return t.append(
+        return append(
+            out,
+            at,
             &[
                 b'0' + s.status,
                 b',',
@@ -80,5 +84,7 @@ pub fn write_shown(t: Text, s: Shown) -> Text
             ],
         );
     }
-    t.whole(s.status as u32).put(b',').append(&b)
+    let a = whole(out, at, s.status as u32);
+    let c = put(out, a, b',');
+    append(out, c, &b)
 }

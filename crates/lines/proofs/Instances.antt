@@ -2,9 +2,9 @@
 use mathlib.Core.Path.{_≡_, refl}
 use mathlib.Core.Bool.{true, false}
 use mathlib.Core.List.{[], _∷_, map}
-use Rattle.text.specs.Text.{ascii, put, puts}
+use Rattle.text.specs.Text.{ascii}
+use Rattle.text.specs.Page.{put, puts, Page}
 use Rattle.text.specs.Digits.{bare}
-use Rattle.text.specs.declared.Text.{Text}
 use Rattle.settings.specs.Models.{defaults}
 use Rattle.settings.specs.declared.model.Model.{Model}
 use Rattle.settings.specs.declared.model.Model.the-variants.{Tpg361, Tpg362}
@@ -18,7 +18,7 @@ unfolding bare settingText
 default-factors = refl
 
 -- CR, then LF
-pub line-ends : (t : Text) → puts t lineEnd ≡ put (put t 13) 10
+pub line-ends : (t : Page) → puts t lineEnd ≡ put (put t 13) 10
 line-ends t = refl
 
 pub digits-are : map digit (true ∷ false ∷ []) ≡ ascii "10"

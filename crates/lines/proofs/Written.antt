@@ -5,9 +5,8 @@ use mathlib.Core.List.{List, [], _∷_, _++_, append-nil}
 use native.Mathlib.Omega.{arith}
 use lib.Dec.{ltb}
 use lib.ListN.{length, getD, take}
-use Rattle.text.specs.Text.{puts}
-use Rattle.text.specs.declared.Text.{Text}
-use Rattle.text.proofs.Texts.{puts-append}
+use Rattle.text.specs.Page.{puts, Page}
+use Rattle.text.proofs.Pages.{puts-append}
 use Rattle.settings.specs.Kinds.{kinds, packed}
 use Rattle.settings.specs.Rows.{row, listed}
 use Rattle.settings.specs.declared.model.Model.{Model}
@@ -41,7 +40,7 @@ one-by-one (k ∷ l ∷ []) r n h = ap (λ (y : List ℕ). write k (r .first) ++
 one-by-one (k ∷ l ∷ o ∷ []) r n h = refl
 one-by-one (k ∷ l ∷ o ∷ p ∷ ks) r n h = absurd (omega arith)
 
-put-one-by-one : (ks : List Kind) (r : Row) → (length ks ≡ 0 → ⊥) → length ks ≤ 3 → (t : Text)
+put-one-by-one : (ks : List Kind) (r : Row) → (length ks ≡ 0 → ⊥) → length ks ≤ 3 → (t : Page)
     → puts (puts (puts t (write (getD ks 0 Level) (r .first))) (more (ltb 1 (length ks)) (getD ks 1 Level) (r .second))) (more (ltb 2 (length ks)) (getD ks 2 Level) (r .third))
     ≡ puts t (joined (texts ks (take (length ks) (listed r))))
 put-one-by-one ks r n h t =
@@ -51,7 +50,7 @@ put-one-by-one ks r n h t =
     sym (puts-append (puts t a) b c) ∙ sym (puts-append t a (b ++ c)) ∙ ap (puts t) (one-by-one ks r n h)
 
 pub setting-written : (model : Model) (s : Settings) (x : Setting) (ks : Kinds) (r : Row) → ks ≡ packed (kinds model (Of x)) → r ≡ row s x
-    → (ks .count ≡ 0 → ⊥) → (t : Text)
+    → (ks .count ≡ 0 → ⊥) → (t : Page)
     → puts (puts (puts t (write (ks .first) (r .first))) (more (ltb 1 (ks .count)) (ks .second) (r .second))) (more (ltb 2 (ks .count)) (ks .third) (r .third))
     ≡ puts t (settingText model s x)
 unfolding settingText

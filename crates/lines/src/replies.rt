@@ -1,7 +1,7 @@
 // The reply of each setting.
 ghost use mathlib.Core.Path.{_≡_};
 ghost use mathlib.Core.List.{_++_};
-ghost use Rattle.text.specs.Text.{empty, puts};
+ghost use Rattle.text.specs.Page.{page, puts};
 ghost use Rattle.lines.specs.Fields.{write};
 ghost use Rattle.lines.specs.Replies.{more, settingText, factorsText, lineEnd};
 use numbers::threshold::Threshold;
@@ -11,31 +11,35 @@ use settings::kinds::Kind;
 use settings::mnemonic::Mnemonic;
 use settings::mnemonic::Setting;
 use settings::model::Model;
-use text::Text;
+use text::append;
+use text::digits::factor;
+use text::digits::whole;
+use text::put;
 
-fn write_cell(t: Text, kind: Kind, cell: Threshold) -> Text
-    ensures { λ r. ⌜ r ≡ puts t (write kind cell) ⌝ }
+fn write_cell(out: &mut [u8], at: usize, kind: Kind, cell: Threshold) -> usize
+    ensures { λ r. ⌜ page (now (out .exit)) r ≡ puts (page (now (out .entry)) at) (write kind cell) ⌝ }
 {
     match kind {
-        Kind::Whole(_) => t.whole(cell.mantissa),
-        Kind::Factor(_) => t.factor(cell.mantissa),
-        Kind::Threshold => write_threshold(t, cell),
+        Kind::Whole(_) => whole(out, at, cell.mantissa),
+        Kind::Factor(_) => factor(out, at, cell.mantissa),
+        Kind::Threshold => write_threshold(out, at, cell),
     }
 }
 
 // A comma and one cell more, where the model has it.
-fn write_more(t: Text, has: bool, kind: Kind, cell: Threshold) -> Text
-    ensures { λ r. ⌜ r ≡ puts t (more has kind cell) ⌝ }
+fn write_more(out: &mut [u8], at: usize, has: bool, kind: Kind, cell: Threshold) -> usize
+    ensures { λ r. ⌜ page (now (out .exit)) r ≡ puts (page (now (out .entry)) at) (more has kind cell) ⌝ }
 {
     if has {
-        return write_cell(t.put(b','), kind, cell);
+        let a = put(out, at, b',');
+        return write_cell(out, a, kind, cell);
     }
-    t
+    at
 }
 
-// The text with the cells of a setting behind it, commas between.
-fn write_setting(t: Text, model: Model, s: Settings, x: Setting) -> Text
-    ensures { λ r. ⌜ r ≡ puts t (settingText model s x) ⌝ }
+// The cells of a setting, commas between.
+fn write_setting(out: &mut [u8], at: usize, model: Model, s: Settings, x: Setting) -> usize
+    ensures { λ r. ⌜ page (now (out .exit)) r ≡ puts (page (now (out .entry)) at) (settingText model s x) ⌝ }
 {
     let ks = model.shape(Mnemonic::Setting(x));
     let n = ks.count;
@@ -44,30 +48,31 @@ fn write_setting(t: Text, model: Model, s: Settings, x: Setting) -> Text
     let third = ks.third;
     let r = s.row(x);
     if n == 0 {
-        return t;
+        return at;
     }
-    let a = write_cell(t, first, r.first);
-    let b = write_more(a, 1 < n, second, r.second);
-    write_more(b, 2 < n, third, r.third)
+    let a = write_cell(out, at, first, r.first);
+    let b = write_more(out, a, 1 < n, second, r.second);
+    write_more(out, b, 2 < n, third, r.third)
 }
 
-// The text with CR LF behind it.
-pub fn end_line(t: Text) -> Text
-    ensures { λ r. ⌜ r ≡ puts t lineEnd ⌝ }
+// CR LF.
+pub fn end_line(out: &mut [u8], at: usize) -> usize
+    ensures { λ r. ⌜ page (now (out .exit)) r ≡ puts (page (now (out .entry)) at) lineEnd ⌝ }
 {
-    t.append(&[13, 10])
+    append(out, at, &[13, 10])
 }
 
 // What the box sends when it is asked for a setting.
-pub fn setting_reply(model: Model, s: Settings, x: Setting) -> Text
-    ensures { λ r. ⌜ r ≡ puts empty (settingText model s x ++ lineEnd) ⌝ }
+pub fn setting_reply(out: &mut [u8], at: usize, model: Model, s: Settings, x: Setting) -> usize
+    ensures { λ r. ⌜ page (now (out .exit)) r ≡ puts (page (now (out .entry)) at) (settingText model s x ++ lineEnd) ⌝ }
 {
-    end_line(write_setting(Text::empty(), model, s, x))
+    let a = write_setting(out, at, model, s, x);
+    end_line(out, a)
 }
 
 // What the box sends when it is asked for CF1 or CF2: the factors of all its channels.
-pub fn factors_reply(model: Model, s: Settings) -> Text
-    ensures { λ r. ⌜ r ≡ puts empty (factorsText model s ++ lineEnd) ⌝ }
+pub fn factors_reply(out: &mut [u8], at: usize, model: Model, s: Settings) -> usize
+    ensures { λ r. ⌜ page (now (out .exit)) r ≡ puts (page (now (out .entry)) at) (factorsText model s ++ lineEnd) ⌝ }
 {
-    setting_reply(model, s, Setting::Cal)
+    setting_reply(out, at, model, s, Setting::Cal)
 }

@@ -1,10 +1,9 @@
 // The error word: a digit for each fault, gathered until the word is sent.
 ghost use mathlib.Core.Path.{_≡_};
-ghost use mathlib.Core.List.{[], _∷_};
-ghost use Rattle.text.specs.Text.{puts};
+ghost use Rattle.text.specs.Page.{page, puts};
 ghost use Rattle.lines.specs.Words.{digit, wordText, noError, gathered};
 use crate::verdict::Fault;
-use text::Text;
+use text::append;
 
 pub struct Word {
     pub hardware: bool,
@@ -45,17 +44,19 @@ impl Word {
     }
 }
 
-// The text with a digit that is 0 or 1 put behind it.
-pub fn write_digit(t: Text, on: bool) -> Text
-    ensures { λ r. ⌜ r ≡ puts t (digit on ∷ []) ⌝ }
+// A digit that is 0 or 1.
+pub fn digit_of(on: bool) -> u8
+    ensures { λ r. ⌜ r ≡ digit on ⌝ }
 {
-    if on { t.put(b'1') } else { t.put(b'0') }
+    if on { b'1' } else { b'0' }
 }
 
-// The text with the four digits of the word put behind it.
-pub fn write_word(t: Text, w: Word) -> Text
-    ensures { λ r. ⌜ r ≡ puts t (wordText w) ⌝ }
+// The four digits of the word put into out from `at` on.
+pub fn write_word(out: &mut [u8], at: usize, w: Word) -> usize
+    ensures { λ r. ⌜ page (now (out .exit)) r ≡ puts (page (now (out .entry)) at) (wordText w) ⌝ }
 {
-    let a = write_digit(t.put(b'0'), w.hardware);
-    write_digit(write_digit(a, w.parameter), w.syntax)
+    let a = digit_of(w.hardware);
+    let b = digit_of(w.parameter);
+    let c = digit_of(w.syntax);
+    append(out, at, &[b'0', a, b, c])
 }

@@ -2,17 +2,18 @@
 use Prim.Native.Nat.{ℕ, _+_, _*_, _^_, _≤_, _<_}
 use mathlib.Core.Path.{_≡_, refl}
 use mathlib.Core.Bool.{true, false, _&&_}
+use mathlib.Core.Logic.{⊎-elim}
 use native.Mathlib.Omega.{arith}
-use native.Mathlib.Nat.{mul-le-mul}
+use native.Mathlib.Nat.{mul-le-mul, mul-one}
 use lib.Dec.{leb}
 use lib.IntN.{ℤ, pos, negsuc, natAbs, _-ℤ_}
-use Rattle.numbers.proofs.Cases.{and-true, ranged}
+use Rattle.numbers.proofs.Cases.{and-true, ranged, true-or-false}
 use Rattle.numbers.proofs.Signed.{abs-minus, abs-neg, between-near}
 use Rattle.numbers.specs.Numbers.{fiveDigits, between, isFive, signed}
 use Rattle.numbers.specs.Rounding.{isUsable, product, scaledBy, Nearest}
 use Rattle.numbers.specs.declared.value.Value.{Value}
 use Rattle.numbers.specs.declared.value.Ratio.{Ratio}
-use Rattle.numbers.proofs.Nearest.{rounded-five, rounded-near, rounded-nearest}
+use Rattle.numbers.proofs.Nearest.{rounded-five, rounded-near, rounded-nearest, round-exact}
 
 abs-signed : (z : ℤ) (m : ℕ) → natAbs (signed z m) ≡ m
 abs-signed (pos n) m = refl
@@ -58,7 +59,20 @@ module _ (v : Value) (r : Ratio) (h : isFive v && isUsable r ≡ true) where
   pub scaled-sign : scaledBy v r .mantissa ≡ signed (v .mantissa) (natAbs (scaledBy v r .mantissa))
   scaled-sign = rw (scaled-is, abs-signed)
 
+signed-abs : (z : ℤ) → signed z (natAbs z) ≡ z
+signed-abs (pos n) = refl
+signed-abs (negsuc n) = refl
+
 -- what is not scaled stays as it is
 pub scaled-not : (v : Value) (r : Ratio) → isFive v && isUsable r ≡ false → v ≡ scaledBy v r
 unfolding scaledBy
 scaled-not v r h = rw h
+
+-- and so does what is scaled by one
+pub scaled-one : (v : Value) (r : Ratio) → r .over ≡ 1 → r .under ≡ 1 → v ≡ scaledBy v r
+scaled-one v r o u =
+    ⊎-elim (λ (h : isFive v && isUsable r ≡ true).
+    let m = natAbs (v .mantissa) in
+    let digits = ranged 10000 99999 m (and-true (fiveDigits m) (between (negsuc 98) (pos 99) (v .exponent)) (and-true (isFive v) (isUsable r) h .0) .0) in
+    let same : product v r ≡ record { mantissa = m; exponent = v .exponent } = rw (o, u, mul-one m) (round-exact m (v .exponent) (digits .0) (digits .1)) in
+    rw (scaled-is v r h, same, signed-abs)) (scaled-not v r) (true-or-false (isFive v && isUsable r))

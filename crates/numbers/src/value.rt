@@ -118,8 +118,17 @@ impl Value {
         rounded((m as u64) * over, under, e - 4)
     }
 
-    // The value times the ratio, rounded once to five digits, half upwards.
+    // The value times the ratio, rounded once to five digits, half upwards; by one it stays as it is.
     pub fn scaled(self, ratio: Ratio) -> Value
+        ensures { λ r. ⌜ r ≡ scaledBy self ratio ⌝ }
+    {
+        if (ratio.over == 1) & (ratio.under == 1) {
+            return self;
+        }
+        self.multiplied(ratio)
+    }
+
+    fn multiplied(self, ratio: Ratio) -> Value
         ensures { λ r. ⌜ r ≡ scaledBy self ratio ⌝ }
     {
         if self.is_five() & ratio.is_usable() {

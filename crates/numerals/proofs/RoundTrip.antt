@@ -14,7 +14,7 @@ use lib.ListN.{length}
 use lib.IntN.{ℤ, pos, negsuc, natAbs, _-ℤ_}
 use Rattle.text.specs.Digits.{dig, bare, wholeText, factorText}
 use Rattle.numbers.proofs.Cases.{below}
-use Rattle.text.proofs.Texts.{dig-length}
+use Rattle.text.proofs.Decimals.{dig-length}
 use Rattle.numbers.specs.Numbers.{withinStops}
 use Rattle.numerals.specs.Writing.{signByte, scientific, thresholdText}
 use Rattle.numbers.specs.Rounding.{fittedTo}

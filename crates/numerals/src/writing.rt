@@ -1,11 +1,11 @@
 // Numbers of five digits put into a text.
 ghost use mathlib.Core.Path.{_≡_};
-ghost use Rattle.text.specs.Text.{puts};
+ghost use Rattle.text.specs.Page.{page, puts};
 ghost use Rattle.numerals.specs.Writing.{signByte, scientific, thresholdText, valueText};
 use numbers::signs::magnitude;
 use numbers::threshold::Threshold;
 use numbers::value::Value;
-use text::Text;
+use text::append;
 use text::digits::digit_at;
 
 fn sign_byte(z: i32) -> u8
@@ -33,12 +33,12 @@ fn scientific(m: u32, e: i32) -> [u8; 10]
     ]
 }
 
-// The text with the threshold put behind it.
-pub fn write_threshold(t: Text, n: Threshold) -> Text
-    ensures { λ r. ⌜ r ≡ puts t (thresholdText n) ⌝ }
+// The threshold put into out from `at` on; the place after it.
+pub fn write_threshold(out: &mut [u8], at: usize, n: Threshold) -> usize
+    ensures { λ r. ⌜ page (now (out .exit)) r ≡ puts (page (now (out .entry)) at) (thresholdText n) ⌝ }
 {
     let b = scientific(n.mantissa, n.exponent);
-    t.append(&b)
+    append(out, at, &b)
 }
 
 // A shown value as it is sent: its sign first.

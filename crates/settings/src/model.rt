@@ -1,11 +1,11 @@
 // The models, and the rules that belong to one.
 ghost use mathlib.Core.Path.{_≡_};
-ghost use Rattle.text.specs.Text.{puts};
+ghost use Rattle.text.specs.Page.{page, puts};
 ghost use Rattle.settings.specs.Models.{modelOf, channels, names, powerOnMode, startsOn, follows, agrees, defaults};
 use crate::Settings;
 use crate::Switching;
 use numbers::threshold::Threshold;
-use text::Text;
+use text::append;
 
 pub enum Model {
     Tpg361,
@@ -53,13 +53,13 @@ impl Model {
         }
     }
 
-    // The text with the model's names for AYT put behind it.
-    pub fn write_names(self, t: Text) -> Text
-        ensures { λ r. ⌜ r ≡ puts t (names self) ⌝ }
+    // The model's names for AYT put into out from `at` on; the place after them.
+    pub fn write_names(self, out: &mut [u8], at: usize) -> usize
+        ensures { λ r. ⌜ page (now (out .exit)) r ≡ puts (page (now (out .entry)) at) (names self) ⌝ }
     {
         match self {
-            Model::Tpg361 => t.append(&NAMES_361),
-            Model::Tpg362 => t.append(&NAMES_362),
+            Model::Tpg361 => append(out, at, &NAMES_361),
+            Model::Tpg362 => append(out, at, &NAMES_362),
         }
     }
 

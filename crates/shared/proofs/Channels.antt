@@ -3,9 +3,8 @@ use Prim.Native.Nat.{ℕ, _≤_, _<_}
 use mathlib.Core.Path.{_≡_, refl, sym, ap, _∙_}
 use mathlib.Core.List.{List, _∷_, _++_}
 use native.Mathlib.Omega.{arith}
-use Rattle.text.specs.Text.{put, puts}
-use Rattle.text.specs.declared.Text.{Text}
-use Rattle.text.proofs.Texts.{puts-append}
+use Rattle.text.specs.Page.{put, puts, Page}
+use Rattle.text.proofs.Pages.{puts-append}
 use Rattle.settings.specs.Models.{channels}
 use Rattle.settings.specs.declared.model.Model.{Model}
 use Rattle.settings.specs.declared.model.Model.the-variants.{Tpg361, Tpg362}
@@ -21,7 +20,7 @@ unfolding perChannel
 one Tpg361 text h = refl
 one Tpg362 text h = absurd (omega arith)
 
-module _ (model : Model) (text : ℕ → List ℕ) (t : Text) (n : ℕ) (e : n ≡ channels model) where
+module _ (model : Model) (text : ℕ → List ℕ) (t : Page) (n : ℕ) (e : n ≡ channels model) where
   -- two channels: a comma, and the second text
   pub puts-two : 1 < n → puts (put (puts t (text 0)) 44) (text 1) ≡ puts t (perChannel model text)
   puts-two h = sym (ap (puts t) (two model text (omega arith)) ∙ puts-append t (text 0) (44 ∷ text 1))

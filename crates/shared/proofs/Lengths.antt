@@ -10,7 +10,7 @@ use lib.Dec.{leb, eqb}
 use lib.IntN.{ℤ}
 use lib.ListN.{length, length-append}
 use Rattle.text.specs.Digits.{dig, bare, wholeText}
-use Rattle.text.proofs.Texts.{dig-length}
+use Rattle.text.proofs.Decimals.{dig-length}
 use Rattle.numbers.specs.declared.threshold.Threshold.{Threshold}
 use Rattle.numbers.proofs.Cases.{cond-cases}
 use Rattle.numerals.specs.Writing.{scientific, valueText}

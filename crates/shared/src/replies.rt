@@ -1,6 +1,8 @@
 // What a box sends of its shared part: the reply of each mnemonic, and the line of the stream.
 ghost use mathlib.Core.Path.{_≡_};
-ghost use Rattle.text.specs.Text.{empty, puts};
+ghost use Rattle.text.specs.Page.{page, puts};
+ghost use mathlib.Core.List.{_++_};
+ghost use Rattle.lines.specs.Replies.{lineEnd};
 ghost use Rattle.shared.specs.Replies.{readingAt, kindAt, shownAt, perChannel, switchesText, serialText, queryText, replyText, streamText};
 use crate::Shared;
 use gauges::kinds::write_kind;
@@ -10,12 +12,14 @@ use lines::replies::end_line;
 use lines::replies::factors_reply;
 use lines::replies::setting_reply;
 use lines::word::Word;
-use lines::word::write_digit;
+use lines::word::digit_of;
 use lines::word::write_word;
 use settings::mnemonic::Mnemonic;
 use settings::mnemonic::Query;
 use settings::model::Model;
-use text::Text;
+use text::append;
+use text::digits::padded;
+use text::put;
 
 const VERSIONS: [u8; 14] = *b",010100,010100";
 
@@ -32,101 +36,121 @@ fn reading_at(readings: [Reading; 2], k: u8) -> Reading
     Reading::none()
 }
 
-fn write_switches(t: Text, on: [bool; 4]) -> Text
-    ensures { λ r. ⌜ r ≡ puts t (switchesText on) ⌝ }
+fn write_switches(out: &mut [u8], at: usize, on: [bool; 4]) -> usize
+    ensures { λ r. ⌜ page (now (out .exit)) r ≡ puts (page (now (out .entry)) at) (switchesText on) ⌝ }
 {
-    let a = write_digit(t, on[0]);
-    let b = write_digit(a.put(b','), on[1]);
-    let c = write_digit(b.put(b','), on[2]);
-    write_digit(c.put(b','), on[3])
+    let a = digit_of(on[0]);
+    let b = digit_of(on[1]);
+    let c = digit_of(on[2]);
+    let d = digit_of(on[3]);
+    append(out, at, &[a, b',', b, b',', c, b',', d])
 }
 
 // The reading of one channel.
-fn write_reading(t: Text, unit: u32, readings: [Reading; 2], k: u8) -> Text
-    ensures { λ r. ⌜ r ≡ puts t (shownAt unit readings k) ⌝ }
+fn write_reading(out: &mut [u8], at: usize, unit: u32, readings: [Reading; 2], k: u8) -> usize
+    ensures { λ r. ⌜ page (now (out .exit)) r ≡ puts (page (now (out .entry)) at) (shownAt unit readings k) ⌝ }
 {
     let r = reading_at(readings, k);
-    write_shown(t, r.shown(unit))
+    write_shown(out, at, r.shown(unit))
 }
 
 // The readings of all channels.
-fn write_readings(t: Text, model: Model, unit: u32, readings: [Reading; 2]) -> Text
-    ensures { λ r. ⌜ r ≡ puts t (perChannel model (shownAt unit readings)) ⌝ }
+fn write_readings(
+    out: &mut [u8],
+    at: usize,
+    model: Model,
+    unit: u32,
+    readings: [Reading; 2],
+) -> usize
+    ensures { λ r. ⌜ page (now (out .exit)) r ≡ puts (page (now (out .entry)) at) (perChannel model (shownAt unit readings)) ⌝ }
 {
-    let first = write_reading(t, unit, readings, 0);
+    let one = readings[0];
+    let first = write_shown(out, at, one.shown(unit));
     if 1 < model.channels() {
-        return write_reading(first.put(b','), unit, readings, 1);
+        let next = put(out, first, b',');
+        let two = readings[1];
+        return write_shown(out, next, two.shown(unit));
     }
     first
 }
 
 // The kind of gauge of one channel.
-fn write_kind_at(t: Text, readings: [Reading; 2], k: u8) -> Text
-    ensures { λ r. ⌜ r ≡ puts t (kindAt readings k) ⌝ }
+fn write_kind_at(out: &mut [u8], at: usize, readings: [Reading; 2], k: u8) -> usize
+    ensures { λ r. ⌜ page (now (out .exit)) r ≡ puts (page (now (out .entry)) at) (kindAt readings k) ⌝ }
 {
     let r = reading_at(readings, k);
-    write_kind(t, r.kind)
+    write_kind(out, at, r.kind)
 }
 
 // The kinds of gauge of all channels.
-fn write_kinds(t: Text, model: Model, readings: [Reading; 2]) -> Text
-    ensures { λ r. ⌜ r ≡ puts t (perChannel model (kindAt readings)) ⌝ }
+fn write_kinds(out: &mut [u8], at: usize, model: Model, readings: [Reading; 2]) -> usize
+    ensures { λ r. ⌜ page (now (out .exit)) r ≡ puts (page (now (out .entry)) at) (perChannel model (kindAt readings)) ⌝ }
 {
-    let first = write_kind_at(t, readings, 0);
+    let first = write_kind_at(out, at, readings, 0);
     if 1 < model.channels() {
-        return write_kind_at(first.put(b','), readings, 1);
+        let next = put(out, first, b',');
+        return write_kind_at(out, next, readings, 1);
     }
     first
 }
 
-fn write_identity(t: Text, model: Model, serial: u32) -> Text
-    ensures { λ r. ⌜ r ≡ puts t (serialText model serial) ⌝ }
+fn write_identity(out: &mut [u8], at: usize, model: Model, serial: u32) -> usize
+    ensures { λ r. ⌜ page (now (out .exit)) r ≡ puts (page (now (out .entry)) at) (serialText model serial) ⌝ }
 {
-    let a = model.write_names(t).put(b',');
-    a.padded(serial, SERIAL_DIGITS).append(&VERSIONS)
+    let a = model.write_names(out, at);
+    let b = put(out, a, b',');
+    let c = padded(out, b, serial, SERIAL_DIGITS);
+    append(out, c, &VERSIONS)
 }
 
 impl Shared {
-    fn write_query(self, t: Text, q: Query, error: Word) -> Text
-        ensures { λ r. ⌜ r ≡ puts t (queryText self error q) ⌝ }
+    fn write_query(self, out: &mut [u8], at: usize, q: Query, error: Word) -> usize
+        ensures { λ r. ⌜ page (now (out .exit)) r ≡ puts (page (now (out .entry)) at) (queryText self error q) ⌝ }
     {
         let model = self.model;
         let readings = self.readings;
         match q {
             Query::Sps => {
                 let on = self.switches;
-                write_switches(t, on)
+                write_switches(out, at, on)
             }
-            Query::Pr(k) => write_reading(t, self.settings.unit, readings, k),
-            Query::Prx => write_readings(t, model, self.settings.unit, readings),
-            Query::Tid => write_kinds(t, model, readings),
-            Query::Ayt => write_identity(t, model, self.serial),
-            Query::Err => write_word(t, error),
+            Query::Pr(k) => write_reading(out, at, self.settings.unit, readings, k),
+            Query::Prx => write_readings(out, at, model, self.settings.unit, readings),
+            Query::Tid => write_kinds(out, at, model, readings),
+            Query::Ayt => write_identity(out, at, model, self.serial),
+            Query::Err => write_word(out, at, error),
         }
     }
 
+    fn query_reply(self, out: &mut [u8], at: usize, q: Query, error: Word) -> usize
+        ensures { λ r. ⌜ page (now (out .exit)) r ≡ puts (page (now (out .entry)) at) (queryText self error q ++ lineEnd) ⌝ }
+    {
+        let a = self.write_query(out, at, q, error);
+        end_line(out, a)
+    }
+
     // The reply of a mnemonic; that of ERR is the error word handed in. COM and SAV have none.
-    pub fn reply(self, m: Mnemonic, error: Word) -> Text
-        ensures { λ r. ⌜ r ≡ puts empty (replyText self error m) ⌝ }
+    pub fn reply(self, out: &mut [u8], at: usize, m: Mnemonic, error: Word) -> usize
+        ensures { λ r. ⌜ page (now (out .exit)) r ≡ puts (page (now (out .entry)) at) (replyText self error m) ⌝ }
     {
         let model = self.model;
         let settings = self.settings;
         match m {
-            Mnemonic::Setting(x) => setting_reply(model, settings, x),
-            Mnemonic::Cf(_) => factors_reply(model, settings),
-            Mnemonic::Query(q) => end_line(self.write_query(Text::empty(), q, error)),
-            Mnemonic::Com => Text::empty(),
-            Mnemonic::Sav => Text::empty(),
+            Mnemonic::Setting(x) => setting_reply(out, at, model, settings, x),
+            Mnemonic::Cf(_) => factors_reply(out, at, model, settings),
+            Mnemonic::Query(q) => self.query_reply(out, at, q, error),
+            Mnemonic::Com => at,
+            Mnemonic::Sav => at,
         }
     }
 
     // A line of the stream.
-    pub fn stream_line(self) -> Text
-        ensures { λ r. ⌜ r ≡ puts empty (streamText self) ⌝ }
+    pub fn stream_line(self, out: &mut [u8], at: usize) -> usize
+        ensures { λ r. ⌜ page (now (out .exit)) r ≡ puts (page (now (out .entry)) at) (streamText self) ⌝ }
     {
         let model = self.model;
         let readings = self.readings;
-        let t = write_readings(Text::empty(), model, self.settings.unit, readings);
-        end_line(t)
+        let a = write_readings(out, at, model, self.settings.unit, readings);
+        end_line(out, a)
     }
 }

@@ -1,15 +1,9 @@
 -- What the definitions give where docs/PROMISES.md names a wrong answer.
-use Prim.Native.Nat.{ℕ, _+_, _/_, _%_, _^_, _<_}
+use Prim.Native.Nat.{ℕ, _+_, _/_, _%_, _^_}
 use mathlib.Core.Path.{_≡_, refl}
 use mathlib.Core.List.{[], _∷_, map}
-use lib.ListN.{getD}
 use Rattle.text.specs.Digits.{bare, factorText}
-use Rattle.text.specs.Text.{ascii, empty}
-use Rattle.text.proofs.Tables.{alike}
-
--- every place of an empty text is there, and zero
-pub empty-places : (i : ℕ) → i < 64 → getD (empty .bytes) i 1 ≡ 0
-empty-places = alike (λ (i : ℕ). getD (empty .bytes) i 1) (λ (i : ℕ). 0) 64 refl
+use Rattle.text.specs.Text.{ascii}
 
 -- a digit with 0, 1, 2 and 3 others behind it; past the highest, and past the ten that a number can have, it is 0
 pub digit-places : map (λ (k : ℕ). 48 + 4718 / 10 ^ k % 10) (0 ∷ 1 ∷ 2 ∷ 3 ∷ 4 ∷ 10 ∷ []) ≡ ascii "817400"

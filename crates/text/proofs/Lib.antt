@@ -1,4 +1,5 @@
-pub mod Texts
+pub mod Pages
+pub mod Decimals
 pub mod Tables
 pub mod Marks
 pub mod Instances

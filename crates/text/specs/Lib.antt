@@ -1,3 +1,4 @@
 pub mod Text
+pub mod Page
 pub mod Digits
 pub mod Spans

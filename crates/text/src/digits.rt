@@ -1,10 +1,11 @@
-// Numbers put into a text by their digits: whole numbers, numbers of fixed width, factors.
+// Numbers put into an output by their digits: whole numbers, numbers of fixed width, factors.
 ghost use mathlib.Core.Path.{_≡_};
 ghost use Prim.Native.Nat.{_≤_, _<_, _+_, _/_, _%_, _^_};
 ghost use lib.ListN.{drop};
-ghost use Rattle.text.specs.Text.{puts};
-ghost use Rattle.text.specs.Digits.{dig, wholeText, paddedText, factorText};
-use crate::Text;
+ghost use Rattle.text.specs.Page.{page, puts};
+ghost use Rattle.text.specs.Digits.{dig, bare, wholeText, paddedText, factorText};
+use crate::append;
+use crate::put;
 
 const POWERS: [u32; 10] = [
     1,
@@ -47,45 +48,55 @@ fn digits_of(n: u32) -> [u8; 10]
     ]
 }
 
-impl Text {
-    // The digits from the place `from` on.
-    fn tail(self, d: [u8; 10], from: usize) -> Text
-        requires { ⌜ from ≤ 10 ⌝ }
-        ensures { λ r. ⌜ r ≡ puts self (drop from d) ⌝ }
-    {
-        self.append(&d[from..])
-    }
+// The digits from the place `from` on.
+fn tail(out: &mut [u8], at: usize, d: [u8; 10], from: usize) -> usize
+    requires { ⌜ from ≤ 10 ⌝ }
+    ensures { λ r. ⌜ page (now (out .exit)) r ≡ puts (page (now (out .entry)) at) (drop from d) ⌝ }
+{
+    append(out, at, &d[from..])
+}
 
-    // A whole number without leading zeros.
-    pub fn whole(self, n: u32) -> Text
-        ensures { λ r. ⌜ r ≡ puts self (wholeText n) ⌝ }
-    {
-        let d = digits_of(n);
-        let mut i: usize = 0;
-        while i < 9 {
-            if d[i] != 48 {
-                return self.tail(d, i);
-            }
-            i += 1;
+// How many of the digits are leading zeros; the last digit is none.
+fn zeros(d: [u8; 10]) -> usize
+    ensures { λ r. ⌜ (r ≤ 9) × (drop r d ≡ bare d) ⌝ }
+{
+    let mut i: usize = 0;
+    while i < 9 {
+        if d[i] != 48 {
+            return i;
         }
-        self.tail(d, i)
+        i += 1;
     }
+    i
+}
 
-    // A number of fixed width, with leading zeros; ten digits at most.
-    pub fn padded(self, n: u32, width: usize) -> Text
-        ensures { λ r. ⌜ r ≡ puts self (paddedText n width) ⌝ }
-    {
-        let d = digits_of(n);
-        if width < 10 {
-            return self.tail(d, 10 - width);
-        }
-        self.tail(d, 0)
+// A whole number without leading zeros; one digit needs no search for them.
+pub fn whole(out: &mut [u8], at: usize, n: u32) -> usize
+    ensures { λ r. ⌜ page (now (out .exit)) r ≡ puts (page (now (out .entry)) at) (wholeText n) ⌝ }
+{
+    if n < 10 {
+        return put(out, at, (48 + n) as u8);
     }
+    let d = digits_of(n);
+    tail(out, at, d, zeros(d))
+}
 
-    // A factor of t thousandths.
-    pub fn factor(self, t: u32) -> Text
-        ensures { λ r. ⌜ r ≡ puts self (factorText t) ⌝ }
-    {
-        self.whole(t / 1000).put(b'.').padded(t, 3)
+// A number of fixed width, with leading zeros; ten digits at most.
+pub fn padded(out: &mut [u8], at: usize, n: u32, width: usize) -> usize
+    ensures { λ r. ⌜ page (now (out .exit)) r ≡ puts (page (now (out .entry)) at) (paddedText n width) ⌝ }
+{
+    let d = digits_of(n);
+    if width < 10 {
+        return tail(out, at, d, 10 - width);
     }
+    tail(out, at, d, 0)
+}
+
+// A factor of t thousandths.
+pub fn factor(out: &mut [u8], at: usize, t: u32) -> usize
+    ensures { λ r. ⌜ page (now (out .exit)) r ≡ puts (page (now (out .entry)) at) (factorText t) ⌝ }
+{
+    let a = whole(out, at, t / 1000);
+    let b = put(out, a, b'.');
+    padded(out, b, t, 3)
 }

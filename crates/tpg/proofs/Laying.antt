@@ -1,14 +1,13 @@
 -- Bytes laid into the lent output, one reply behind the other.
 use Prim.Native.Nat.{ℕ, _+_, _≤_}
-use mathlib.Core.Path.{_≡_, sym}
+use mathlib.Core.Path.{_≡_, sym, ap, _∙_}
 use mathlib.Core.List.{List, [], _++_, append-nil}
 use native.Mathlib.Omega.{arith}
 use native.Mathlib.Nat.{add-zero}
 use lib.ListN.{length, take, drop, length-append, length-drop, take-append-drop}
-use lib.Seq.{take-append-seam, drop-append-add, drop-drop}
-use Rattle.text.specs.Text.{empty, puts, laid, after}
-use Rattle.text.specs.declared.Text.{Text}
-use Rattle.text.proofs.Texts.{said, lands-whole, written}
+use lib.Seq.{sets-eq, take-append-seam, drop-append-add, drop-drop}
+use Rattle.text.specs.Page.{Page, page, puts}
+use Rattle.text.proofs.Pages.{puts-room}
 use Rattle.tpg.specs.Steps.{over, laidAt}
 
 module _ (xs ys out : List ℕ) where
@@ -26,11 +25,18 @@ pub over-length : (xs out : List ℕ) → length xs ≤ length out → length (o
 unfolding over
 over-length xs out h = rw (length-append xs (drop (length xs) out), length-drop (length xs) out) (omega arith)
 
--- a text that was filled from empty lands whole
-module _ (t : Text) (xs out : List ℕ) (at : ℕ) (e : t ≡ puts empty xs) (short : length xs ≤ 64) (room : at + length xs ≤ length out) where
-  pub copied : (after t out at ≡ at + length xs) × (laid t out at ≡ laidAt at xs out)
+-- what a writer put where there is room for it
+module _ (xs out out' : List ℕ) (at w : ℕ) (e : page out' w ≡ puts (page out at) xs) (room : at + length xs ≤ length out) where
+  pub copied : (w ≡ at + length xs) × (out' ≡ laidAt at xs out)
   unfolding laidAt
   copied =
-      let h = said xs short in
-      rw e (let w = written (puts empty xs) out at (lands-whole (puts empty xs) out at (omega (arith, h .count)) (omega (arith, h .count))) in
-      (rw (← w .0, h .count), rw (← w .1, h .front, h .count)))
+      let f = e ∙ puts-room xs out at room in
+      (ap (λ (p : Page). p .at) f, ap (λ (p : Page). p .bytes) f ∙ sets-eq xs out at room)
+
+-- what was put into a room of its own from the front on stands at its front
+pub fronted : (xs room : List ℕ) (line : List ℕ) (n : ℕ) → page line n ≡ puts (page room 0) xs → length xs ≤ length room → take n line ≡ xs
+unfolding laidAt
+fronted xs room line n e low =
+    let k = copied xs room line 0 n e (omega arith) in
+    let all : n ≡ length xs = omega (arith, k .0) in
+    rw (all, k .1) (take-append-seam xs (drop (0 + length xs) room))

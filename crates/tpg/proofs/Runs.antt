@@ -10,8 +10,7 @@ use lib.ListN.{length, getD, take, drop, length-append, length-drop, drop-of-len
 use lib.Seq.{take-suc, drop-cons}
 use mathlib.Core.Bool.{true}
 use Rattle.numbers.proofs.Cases.{cond-cases}
-use Rattle.text.specs.Text.{empty, puts, laid, after as end}
-use Rattle.text.specs.declared.Text.{Text}
+use Rattle.text.specs.Page.{page, puts}
 use Rattle.ports.specs.Hearing.{quiet, isTyped, typing, typedOne, typedAll}
 use Rattle.ports.specs.declared.Event.{Event}
 use Rattle.ports.specs.declared.Event.the-variants.{Silent}
@@ -134,12 +133,12 @@ module _ {s : State} {input out₀ : List ℕ} {shared : Shared} {port : Port} {
     silent is = met Silent shared out w is refl (laid-nothing w out) (sym (add-zero w))
 
     -- its text is laid into the output
-    pub answered : (e : Event) (x : Text) (shared' : Shared) (out' : List ℕ) (w' : ℕ) → h .event ≡ e → x ≡ puts empty (eventText shared e) → shared' ≡ acted shared e
-        → (w' ≡ end x out w) × (out' ≡ laid x out w) → Going s input out₀ shared' (h .port) out' (t + 1) w'
-    answered e x shared' out' w' is filled state copy =
+    pub answered : (e : Event) (shared' : Shared) (out' : List ℕ) (w' : ℕ) → h .event ≡ e → shared' ≡ acted shared e
+        → page out' w' ≡ puts (page out w) (eventText shared e) → Going s input out₀ shared' (h .port) out' (t + 1) w'
+    answered e shared' out' w' is state wrote =
         let short : length (eventText shared e) ≤ leastOutput = event-length shared e in
-        let k = copied x (eventText shared e) out w filled short (omega (arith, room free, same-length)) in
-        met e shared' out' w' is state (copy .1 ∙ k .1) (copy .0 ∙ k .0)
+        let k = copied (eventText shared e) out out' w w' wrote (omega (arith, room free, same-length)) in
+        met e shared' out' w' is state (k .1) (k .0)
 
   module _ (none : taken now (drop t input) (length out₀ - w) ≡ 0) where
     all-taken : taken s input (length out₀) ≡ t

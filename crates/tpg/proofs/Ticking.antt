@@ -6,8 +6,7 @@ use mathlib.Core.Bool.{true, false}
 use native.Mathlib.Omega.{arith}
 use native.Mathlib.Nat.{zero-add, suc-add, add-zero}
 use lib.ListN.{length, length-append}
-use Rattle.text.specs.Text.{empty, puts, laid, after}
-use Rattle.text.specs.declared.Text.{Text}
+use Rattle.text.specs.Page.{page, puts}
 use Rattle.ports.specs.Stream.{ticked}
 use Rattle.ports.specs.declared.Port.{Port}
 use Rattle.ports.specs.declared.Ticked.{Ticked}
@@ -100,13 +99,13 @@ module _ {s : State} {n : ℕ} {out₀ : List ℕ} {port : Port} {out : List ℕ
           }
 
       -- where a line is due, it is copied behind what was sent
-      pub due : t .due ≡ true → (line : Text) → line ≡ puts empty (streamText (s .shared)) → (out' : List ℕ) (w' : ℕ) → w' ≡ after line out w → out' ≡ laid line out w
+      pub due : t .due ≡ true → (out' : List ℕ) (w' : ℕ) → page out' w' ≡ puts (page out w) (streamText (s .shared))
           → Counting s n out₀ (t .port) out' (i + 1) w'
-      due d line h out' w' count bytes =
+      due d out' w' wrote =
           let text = streamText (s .shared) in
           let short = stream-length (s .shared) in
-          let l = copied line text out w h short (omega (arith, same-length, g .count, ticks-length i s)) in
-          step out' w' (bytes ∙ rw d (l .1)) (count ∙ rw d (l .0))
+          let l = copied text out out' w w' wrote (omega (arith, same-length, g .count, ticks-length i s)) in
+          step out' w' (rw d (l .1)) (rw d (l .0))
 
       -- where none is, the output is not touched
       pub idle : t .due ≡ false → Counting s n out₀ (t .port) out (i + 1) w

@@ -15,6 +15,7 @@ use numbers::value::Value;
 use settings::model::Model;
 use settings::model::Numbered;
 use shared::Shared;
+use text::append;
 
 // A fresh box, and an answer.
 fn made(model: Model, serial: u32, answer: Answer) -> Outcome
@@ -80,7 +81,8 @@ impl State {
         ensures { λ r. ⌜ (r ≡ allCounted self count) × (now (out .exit) ≡ over (ticksText self count) (now (out .entry))) ⌝ }
     {
         let shared = self.shared;
-        let line = shared.stream_line();
+        let mut line = [0u8; 64];
+        let n = shared.stream_line(&mut line, 0);
         let mut port = self.port;
         let mut written: usize = 0;
         let mut i: u8 = 0;
@@ -90,7 +92,7 @@ impl State {
             port = next;
             i += 1;
             if t.due {
-                written = line.copy(out, written);
+                written = append(out, written, &line[..n]);
             }
         }
         finished(shared, port, 0, written)

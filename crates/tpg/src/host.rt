@@ -1,29 +1,33 @@
 // Bytes from the host: the run over them while there is room.
 ghost use mathlib.Core.Path.{_≡_};
 ghost use lib.ListN.{length};
-ghost use Rattle.text.specs.Text.{empty, puts};
+ghost use Rattle.text.specs.Page.{page, puts};
 ghost use Rattle.tpg.specs.Steps.{lineText, over};
 ghost use Rattle.tpg.specs.Calls.{hosted, hostText, hostCall, hostBytes};
 use crate::State;
 use crate::answers::Outcome;
 use crate::answers::finished;
-use lines::replies::end_line;
 use lines::verdict::Verdict;
 use ports::Event;
 use ports::typing::is_typed;
-use text::Text;
+use text::append;
 
 const ACK: u8 = 6;
 
 const NAK: u8 = 21;
 
-fn line_text(v: Verdict) -> Text
-    ensures { λ r. ⌜ r ≡ puts empty (lineText v) ⌝ }
+const CR: u8 = 13;
+
+const LF: u8 = 10;
+
+// What is sent where a line has ended.
+fn line_text(out: &mut [u8], at: usize, v: Verdict) -> usize
+    ensures { λ r. ⌜ page (now (out .exit)) r ≡ puts (page (now (out .entry)) at) (lineText v) ⌝ }
 {
     match v {
-        Verdict::Asks(_) => end_line(Text::empty().put(ACK)),
-        Verdict::Writes(_, _) => end_line(Text::empty().put(ACK)),
-        Verdict::Refused(_) => end_line(Text::empty().put(NAK)),
+        Verdict::Asks(_) => append(out, at, &[ACK, CR, LF]),
+        Verdict::Writes(_, _) => append(out, at, &[ACK, CR, LF]),
+        Verdict::Refused(_) => append(out, at, &[NAK, CR, LF]),
     }
 }
 
@@ -56,11 +60,11 @@ impl State {
                 match event {
                     Event::Silent => {}
                     Event::Line(v) => {
-                        written = line_text(v).copy(out, written);
+                        written = line_text(out, written, v);
                         shared = shared.heard(v);
                     }
                     Event::Reply(m, error) => {
-                        written = shared.reply(m, error).copy(out, written);
+                        written = shared.reply(out, written, m, error);
                     }
                 }
             }

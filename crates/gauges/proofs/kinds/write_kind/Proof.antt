@@ -1,8 +1,8 @@
 -- `kinds::write_kind`: the part of the table that is appended is the kind's name (`named`).
 use mathlib.Core.Path.{ap, sym, _∙_}
-use mathlib.Core.List.{List, []}
+use mathlib.Core.List.{[]}
 use lib.ListN.{List·getD-eq-default}
-use Rattle.text.specs.Text.{puts}
+use Rattle.text.specs.Page.{page, puts}
 use Rattle.gauges.specs.Kinds.{kindNames}
 use Rattle.gauges.proofs.Names.{in-order, in-names, named}
 use borrow.Author.Needs.{needs}
@@ -25,26 +25,29 @@ array-read-append-2 : tie.Need-array-read-append-2
 array-read-append-2 c = search needs
 
 sub-append : tie.Need-sub-append
-sub-append c = in-order (c .before .args .kind) (c .if1 .taken)
+sub-append c = in-order (c .before .before .before .args .kind) (c .before .if1 .taken)
 
 part-append-start : tie.Need-part-append-start
-part-append-start c = in-order (c .before .before .args .kind) (c .before .if1 .taken)
+part-append-start c = in-order (c .before .before .before .before .args .kind) (c .before .before .if1 .taken)
 
 part-append-end : tie.Need-part-append-end
-part-append-end c = in-names (c .before .before .args .kind) (c .before .if1 .taken)
+part-append-end c = in-names (c .before .before .before .before .args .kind) (c .before .before .if1 .taken)
 
 append-requires : tie.Need-append-requires
 append-requires c κs = search needs
 
+same-length : tie.Need-same-length
+same-length c = search needs
+
 returns : tie.Need-returns
 returns c =
-    let a = c .before .before .before .before .args in
-    c .append .ensures ∙ ap (puts (a .t)) (named (a .kind) (c .before .before .before .if1 .taken))
+    let a = c .before .before .before .before .before .before .before .before .args in
+    c .before .before .append .ensures ∙ ap (puts (page (a .out .now) (a .at))) (named (a .kind) (c .before .before .before .before .before .before .if1 .taken))
 
 returns-2 : tie.Need-returns-2
 returns-2 c =
-    let a = c .before .args in
-    ap (puts (a .t)) (sym (List·getD-eq-default kindNames [] {n = a .kind} (c .if1 .left)))
+    let a = c .before .before .args in
+    ap (puts (page (a .out .now) (a .at))) (sym (List·getD-eq-default kindNames [] {n = a .kind} (c .if1 .left)))
 
 pub write-kind-spec : {M : Type 1} → statement M
 write-kind-spec =
@@ -59,5 +62,6 @@ write-kind-spec =
     part-append-start
     part-append-end
     append-requires
+    same-length
     returns
     returns-2)

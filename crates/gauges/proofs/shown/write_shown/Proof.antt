@@ -1,6 +1,11 @@
 -- `shown::write_shown`: the status, a comma and the value's bytes; one digit is the whole number (`whole-digit`).
-use Rattle.text.proofs.Texts.{puts-append, whole-digit}
-use Rattle.numerals.specs.Writing.{scientific}
+use mathlib.Core.Path.{ap, _∙_}
+use mathlib.Core.List.{_∷_}
+use Rattle.text.specs.Digits.{wholeText}
+use Rattle.text.specs.Page.{page, puts}
+use Rattle.text.proofs.Pages.{then}
+use Rattle.text.proofs.Decimals.{whole-digit}
+use Rattle.numerals.specs.Writing.{scientific, valueText}
 use borrow.Author.Needs.{needs}
 use Rattle.gauges.proofs.shown.write_shown.Statement.{statement}
 use Rattle.gauges.proofs.shown.write_shown.Tie as tie
@@ -8,41 +13,41 @@ use Rattle.gauges.proofs.shown.write_shown.Tie as tie
 value-bytes-requires : tie.Need-value-bytes-requires
 value-bytes-requires c κs = search needs
 
-add-t7 : tie.Need-add-t7
-add-t7 c = search needs
+add-t12 : tie.Need-add-t12
+add-t12 c = search needs
 
-array-read-t10 : tie.Need-array-read-t10
-array-read-t10 c = search needs
+array-read-t15 : tie.Need-array-read-t15
+array-read-t15 c = search needs
 
-array-read-t13 : tie.Need-array-read-t13
-array-read-t13 c = search needs
+array-read-t18 : tie.Need-array-read-t18
+array-read-t18 c = search needs
 
-array-read-t16 : tie.Need-array-read-t16
-array-read-t16 c = search needs
+array-read-t21 : tie.Need-array-read-t21
+array-read-t21 c = search needs
 
-array-read-t19 : tie.Need-array-read-t19
-array-read-t19 c = search needs
+array-read-t24 : tie.Need-array-read-t24
+array-read-t24 c = search needs
 
-array-read-t22 : tie.Need-array-read-t22
-array-read-t22 c = search needs
+array-read-t27 : tie.Need-array-read-t27
+array-read-t27 c = search needs
 
-array-read-t25 : tie.Need-array-read-t25
-array-read-t25 c = search needs
+array-read-t30 : tie.Need-array-read-t30
+array-read-t30 c = search needs
 
-array-read-t28 : tie.Need-array-read-t28
-array-read-t28 c = search needs
+array-read-t33 : tie.Need-array-read-t33
+array-read-t33 c = search needs
 
-array-read-t31 : tie.Need-array-read-t31
-array-read-t31 c = search needs
+array-read-t36 : tie.Need-array-read-t36
+array-read-t36 c = search needs
 
-array-read-t34 : tie.Need-array-read-t34
-array-read-t34 c = search needs
+array-read-t39 : tie.Need-array-read-t39
+array-read-t39 c = search needs
 
-array-read-t37 : tie.Need-array-read-t37
-array-read-t37 c = search needs
+array-read-t42 : tie.Need-array-read-t42
+array-read-t42 c = search needs
 
-array-read-t40 : tie.Need-array-read-t40
-array-read-t40 c = search needs
+array-read-t45 : tie.Need-array-read-t45
+array-read-t45 c = search needs
 
 slice-aggregate-append : tie.Need-slice-aggregate-append
 slice-aggregate-append c = search needs
@@ -50,12 +55,16 @@ slice-aggregate-append c = search needs
 append-requires : tie.Need-append-requires
 append-requires c κs = search needs
 
+same-length : tie.Need-same-length
+same-length c = search needs
+
 returns : tie.Need-returns
 unfolding scientific
 returns c =
-    let start = c .before .before .before .before .before in
-    let one = whole-digit (start .before .args .s .status) (c .before .before .before .if1 .taken) in
-    rw (c .append .ensures, start .value-bytes .ensures, one)
+    let k = c .before .before in
+    let a = c .before .before .before .before .before .before .before .before .before .before .args in
+    let one = whole-digit (a .s .status) (c .before .before .before .before .before .before .if1 .taken) in
+    k .append .ensures ∙ rw (c .before .before .before .before .before .before .before .before .value-bytes .ensures, one)
 
 cast-whole : tie.Need-cast-whole
 cast-whole c = search needs
@@ -72,35 +81,45 @@ slice-aggregate-append-2 c = search needs
 append-requires-2 : tie.Need-append-requires-2
 append-requires-2 c κs = search needs
 
+same-length-2 : tie.Need-same-length-2
+same-length-2 c = search needs
+
 returns-2 : tie.Need-returns-2
 returns-2 c =
-    let put = c .before .before in
-    let start = put .before .before .before .before .before in
-    rw (c .append2 .ensures, put .put .ensures, put .before .whole .ensures, start .value-bytes .ensures, puts-append)
+    let k = c .before .before in
+    let a = c .before .before .before .before .before .before .before .before .before .before .before .before .before .before .before .before .before .before .args in
+    let v = valueText (a .s .value) in
+    let p = page (a .out .now) (a .at) in
+    let w = c .before .before .before .before .before .before .before .before .before .before .before .whole in
+    let q = page (w .last .0) (w .result) in
+    then p (wholeText (a .s .status)) (44 ∷ v) (w .ensures)
+    (k .append2 .ensures ∙ ap (λ r. puts r (c .before .before .before .before .before .before .before .before .before .before .before .before .before .before .before .before .value-bytes .result)) (c .before .before .before .before .before .before .before .put .ensures) ∙ ap (λ b. puts q (44 ∷ b)) (c .before .before .before .before .before .before .before .before .before .before .before .before .before .before .before .before .value-bytes .ensures))
 
 pub write-shown-spec : {M : Type 1} → statement M
 write-shown-spec =
     tie.close
     (tie.spec
     value-bytes-requires
-    add-t7
-    array-read-t10
-    array-read-t13
-    array-read-t16
-    array-read-t19
-    array-read-t22
-    array-read-t25
-    array-read-t28
-    array-read-t31
-    array-read-t34
-    array-read-t37
-    array-read-t40
+    add-t12
+    array-read-t15
+    array-read-t18
+    array-read-t21
+    array-read-t24
+    array-read-t27
+    array-read-t30
+    array-read-t33
+    array-read-t36
+    array-read-t39
+    array-read-t42
+    array-read-t45
     slice-aggregate-append
     append-requires
+    same-length
     returns
     cast-whole
     whole-requires
     put-requires
     slice-aggregate-append-2
     append-requires-2
+    same-length-2
     returns-2)

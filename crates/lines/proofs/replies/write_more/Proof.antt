@@ -1,6 +1,6 @@
+-- A comma and then the cell.
 use mathlib.Core.Path.{ap, _∙_}
-use Rattle.text.specs.Text.{puts}
-use Rattle.text.specs.declared.Text.{Text}
+use Rattle.text.specs.Page.{Page, puts}
 use Rattle.lines.specs.Fields.{write}
 use borrow.Author.Needs.{needs}
 use Rattle.lines.proofs.replies.write_more.Statement.{statement}
@@ -12,13 +12,17 @@ put-requires c κs = search needs
 write-cell-requires : tie.Need-write-cell-requires
 write-cell-requires c κs = search needs
 
+same-length : tie.Need-same-length
+same-length c = search needs
+
 returns : tie.Need-returns
 returns c =
-    let a = c .before .before .before .args in
-    rw (c .before .before .if1 .taken) (c .write-cell .ensures ∙ ap (λ (t : Text). puts t (write (a .kind) (a .cell))) (c .before .put .ensures))
+    let a = c .before .before .before .before .before .before .before .before .before .before .args in
+    rw (c .before .before .before .before .before .before .before .before .if1 .taken) (c .before .before .write-cell .ensures ∙ ap (λ (p : Page). puts p (write (a .kind) (a .cell))) (c .before .before .before .before .before .before .put .ensures))
 
 returns-2 : tie.Need-returns-2
 returns-2 c = rw (c .if1 .left)
 
 pub write-more-spec : {M : Type 1} → statement M
-write-more-spec = tie.close (tie.spec put-requires write-cell-requires returns returns-2)
+write-more-spec =
+    tie.close (tie.spec put-requires write-cell-requires same-length returns returns-2)

@@ -1,7 +1,10 @@
 -- The cells one after the other (`setting-written`); a setting that the model has no field for has no text.
 use mathlib.Core.Path.{sym, ap, _∙_}
-use Rattle.text.specs.Text.{puts}
+use lib.Dec.{ltb}
+use Rattle.text.specs.Page.{Page, page, puts}
 use Rattle.settings.specs.declared.kinds.Kinds.{Kinds}
+use Rattle.lines.specs.Fields.{write}
+use Rattle.lines.specs.Replies.{more}
 use Rattle.lines.proofs.Written.{setting-none, setting-written}
 use borrow.Author.Needs.{needs}
 use Rattle.lines.proofs.replies.write_setting.Statement.{statement}
@@ -15,9 +18,9 @@ row-requires c κs = search needs
 
 returns : tie.Need-returns
 returns c =
-    let a = c .before .before .before .args in
+    let a = c .before .before .before .before .args in
     let e = sym (ap (λ (k : Kinds). k .count) (c .before .before .shape .ensures)) ∙ c .if1 .taken in
-    ap (puts (a .t)) (sym (setting-none (a .model) (a .s) (a .x) e))
+    ap (puts (page (a .out .now) (a .at))) (sym (setting-none (a .model) (a .s) (a .x) e))
 
 write-cell-requires : tie.Need-write-cell-requires
 write-cell-requires c κs = search needs
@@ -28,13 +31,19 @@ write-more-requires c κs = search needs
 write-more-requires-2 : tie.Need-write-more-requires-2
 write-more-requires-2 c κs = search needs
 
+same-length : tie.Need-same-length
+same-length c = search needs
+
 returns-2 : tie.Need-returns-2
 returns-2 c =
-    let r = c .before .before .before .before .row in
-    let k = c .before .before .before .before .before .shape in
-    let a = c .before .before .before .before .before .before .args in
-    rw (c .write-more2 .ensures, c .before .write-more .ensures, c .before .before .write-cell .ensures)
-    (setting-written (a .model) (a .s) (a .x) (k .result) (r .result) (k .ensures) (r .ensures) (c .before .before .before .if1 .left) (a .t))
+    let r = c .before .before .before .before .before .before .before .before .before .before .before .before .before .row in
+    let k = c .before .before .before .before .before .before .before .before .before .before .before .before .before .before .shape in
+    let a = c .before .before .before .before .before .before .before .before .before .before .before .before .before .before .before .before .args in
+    let x = k .result in
+    let y = r .result in
+    let two = c .before .before .before .before .before .before .write-more .ensures ∙ ap (λ (p : Page). puts p (more (ltb 1 (x .count)) (x .second) (y .second))) (c .before .before .before .before .before .before .before .before .before .before .write-cell .ensures) in
+    c .before .before .write-more2 .ensures ∙ ap (λ (p : Page). puts p (more (ltb 2 (x .count)) (x .third) (y .third))) two
+    ∙ setting-written (a .model) (a .s) (a .x) x y (k .ensures) (r .ensures) (c .before .before .before .before .before .before .before .before .before .before .before .before .if1 .left) (page (a .out .now) (a .at))
 
 pub write-setting-spec : {M : Type 1} → statement M
 write-setting-spec =
@@ -46,4 +55,5 @@ write-setting-spec =
     write-cell-requires
     write-more-requires
     write-more-requires-2
+    same-length
     returns-2)

@@ -1,28 +1,39 @@
+-- Four digits, as the word has them.
+use mathlib.Core.Path.{_∙_}
 use borrow.Author.Needs.{needs}
 use Rattle.lines.proofs.word.write_word.Statement.{statement}
 use Rattle.lines.proofs.word.write_word.Tie as tie
 
-put-requires : tie.Need-put-requires
-put-requires c κs = search needs
+digit-of-requires : tie.Need-digit-of-requires
+digit-of-requires c κs = search needs
 
-write-digit-requires : tie.Need-write-digit-requires
-write-digit-requires c κs = search needs
+digit-of-requires-2 : tie.Need-digit-of-requires-2
+digit-of-requires-2 c κs = search needs
 
-write-digit-requires-2 : tie.Need-write-digit-requires-2
-write-digit-requires-2 c κs = search needs
+digit-of-requires-3 : tie.Need-digit-of-requires-3
+digit-of-requires-3 c κs = search needs
 
-write-digit-requires-3 : tie.Need-write-digit-requires-3
-write-digit-requires-3 c κs = search needs
+slice-aggregate-append : tie.Need-slice-aggregate-append
+slice-aggregate-append c = search needs
+
+append-requires : tie.Need-append-requires
+append-requires c κs = search needs
+
+same-length : tie.Need-same-length
+same-length c = search needs
 
 returns : tie.Need-returns
-returns c = rw (c .write-digit3 .ensures, c .before .write-digit2 .ensures, c .before .before .write-digit .ensures, c .before .before .before .put .ensures)
+returns c =
+    c .before .before .append .ensures ∙ rw (c .before .before .before .before .before .digit-of3 .ensures, c .before .before .before .before .before .before .digit-of2 .ensures, c .before .before .before .before .before .before .before .digit-of .ensures)
 
 pub write-word-spec : {M : Type 1} → statement M
 write-word-spec =
     tie.close
     (tie.spec
-    put-requires
-    write-digit-requires
-    write-digit-requires-2
-    write-digit-requires-3
+    digit-of-requires
+    digit-of-requires-2
+    digit-of-requires-3
+    slice-aggregate-append
+    append-requires
+    same-length
     returns)

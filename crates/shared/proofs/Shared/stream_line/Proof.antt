@@ -1,12 +1,11 @@
--- The readings of all channels and then the end of the line (`puts-append`).
-use Rattle.text.proofs.Texts.{puts-append}
-use Rattle.shared.specs.Replies.{streamText}
+-- The readings of all channels and then the end of the line.
+use Rattle.text.specs.Page.{page}
+use Rattle.text.proofs.Pages.{then}
+use Rattle.lines.specs.Replies.{lineEnd}
+use Rattle.shared.specs.Replies.{streamText, perChannel, shownAt}
 use borrow.Author.Needs.{needs}
 use Rattle.shared.proofs.Shared.stream_line.Statement.{statement}
 use Rattle.shared.proofs.Shared.stream_line.Tie as tie
-
-empty-requires : tie.Need-empty-requires
-empty-requires c κs = search needs
 
 write-readings-requires : tie.Need-write-readings-requires
 write-readings-requires c κs = search needs
@@ -14,10 +13,15 @@ write-readings-requires c κs = search needs
 end-line-requires : tie.Need-end-line-requires
 end-line-requires c κs = search needs
 
+same-length : tie.Need-same-length
+same-length c = search needs
+
 returns : tie.Need-returns
 unfolding streamText
-returns c = rw (c .end-line .ensures, c .before .write-readings .ensures, c .before .before .empty .ensures, puts-append)
+returns c =
+    let a = c .before .before .before .before .before .before .before .before .before .before .args in
+    then (page (a .out .now) (a .at)) (perChannel (a .self .model) (shownAt (a .self .settings .unit) (a .self .readings))) lineEnd (c .before .before .before .before .before .before .write-readings .ensures) (c .before .before .end-line .ensures)
 
 pub stream-line-spec : {M : Type 1} → statement M
 stream-line-spec =
-    tie.close (tie.spec empty-requires write-readings-requires end-line-requires returns)
+    tie.close (tie.spec write-readings-requires end-line-requires same-length returns)

@@ -1,4 +1,5 @@
 -- The query tells the case, and the callee of each writes its text.
+use mathlib.Core.Path.{_∙_}
 use borrow.Author.Needs.{needs}
 use Rattle.shared.proofs.Shared.write_query.Statement.{statement}
 use Rattle.shared.proofs.Shared.write_query.Tie as tie
@@ -39,23 +40,41 @@ enum-told-5 c = search needs
 write-word-requires : tie.Need-write-word-requires
 write-word-requires c κs = search needs
 
+same-length : tie.Need-same-length
+same-length c = search needs
+
 returns : tie.Need-returns
-returns c = rw (c .write-switches .ensures, c .before .before .enum-told .given .1)
+returns c = c .before .before .write-switches .ensures ∙ rw (c .before .before .before .before .before .enum-told .given .1)
+
+same-length-2 : tie.Need-same-length-2
+same-length-2 c = search needs
 
 returns-2 : tie.Need-returns-2
-returns-2 c = rw (c .write-reading .ensures, c .before .before .q .given .1)
+returns-2 c = c .before .before .write-reading .ensures ∙ rw (c .before .before .before .before .before .q .given .1)
+
+same-length-3 : tie.Need-same-length-3
+same-length-3 c = search needs
 
 returns-3 : tie.Need-returns-3
-returns-3 c = rw (c .write-readings .ensures, c .before .enum-told2 .given .1)
+returns-3 c = c .before .before .write-readings .ensures ∙ rw (c .before .before .before .before .enum-told2 .given .1)
+
+same-length-4 : tie.Need-same-length-4
+same-length-4 c = search needs
 
 returns-4 : tie.Need-returns-4
-returns-4 c = rw (c .write-kinds .ensures, c .before .enum-told3 .given .1)
+returns-4 c = c .before .before .write-kinds .ensures ∙ rw (c .before .before .before .before .enum-told3 .given .1)
+
+same-length-5 : tie.Need-same-length-5
+same-length-5 c = search needs
 
 returns-5 : tie.Need-returns-5
-returns-5 c = rw (c .write-identity .ensures, c .before .enum-told4 .given .1)
+returns-5 c = c .before .before .write-identity .ensures ∙ rw (c .before .before .before .before .enum-told4 .given .1)
+
+same-length-6 : tie.Need-same-length-6
+same-length-6 c = search needs
 
 returns-6 : tie.Need-returns-6
-returns-6 c = rw (c .write-word .ensures, c .before .enum-told5 .given .1)
+returns-6 c = c .before .before .write-word .ensures ∙ rw (c .before .before .before .before .enum-told5 .given .1)
 
 pub write-query-spec : {M : Type 1} → statement M
 write-query-spec =
@@ -73,9 +92,15 @@ write-query-spec =
     write-identity-requires
     enum-told-5
     write-word-requires
+    same-length
     returns
+    same-length-2
     returns-2
+    same-length-3
     returns-3
+    same-length-4
     returns-4
+    same-length-5
     returns-5
+    same-length-6
     returns-6)

@@ -1,5 +1,8 @@
--- The names, a comma, the serial number and the versions one after the other (`puts-append`).
-use Rattle.text.proofs.Texts.{puts-append}
+-- The names, a comma, the serial number and the versions one after the other.
+use mathlib.Core.Path.{ap, _∙_}
+use Rattle.text.specs.Page.{Page, put, puts}
+use Rattle.text.specs.Digits.{paddedText}
+use Rattle.text.proofs.Pages.{puts-append}
 use borrow.Author.Needs.{needs}
 use Rattle.shared.proofs.replies.write_identity.Statement.{statement}
 use Rattle.shared.proofs.replies.write_identity.Tie as tie
@@ -19,8 +22,15 @@ slice-aggregate-append c = search needs
 append-requires : tie.Need-append-requires
 append-requires c κs = search needs
 
+same-length : tie.Need-same-length
+same-length c = search needs
+
 returns : tie.Need-returns
-returns c = rw (c .append .ensures, c .before .before .padded .ensures, c .before .before .before .put .ensures, c .before .before .before .before .write-names .ensures, puts-append)
+returns c =
+    let a = c .before .before .before .before .before .before .before .before .before .before .before .before .before .before .before .before .before .before .args in
+    let comma = c .before .before .before .before .before .before .before .before .before .before .before .put .ensures ∙ ap (λ (p : Page). put p 44) (c .before .before .before .before .before .before .before .before .before .before .before .before .before .before .before .write-names .ensures) in
+    let number = c .before .before .before .before .before .before .before .padded .ensures ∙ ap (λ (p : Page). puts p (paddedText (a .serial) 8)) comma in
+    c .before .before .append .ensures ∙ rw (number, puts-append)
 
 pub write-identity-spec : {M : Type 1} → statement M
 write-identity-spec =
@@ -31,4 +41,5 @@ write-identity-spec =
     padded-requires
     slice-aggregate-append
     append-requires
+    same-length
     returns)

@@ -1,4 +1,6 @@
--- The kind of the first channel, and behind a comma that of the second where there is one (`puts-two`, `puts-one`).
+-- The first channel, and behind a comma the second where there is one (`puts-two`, `puts-one`).
+use mathlib.Core.Path.{ap, _∙_}
+use Rattle.text.specs.Page.{Page, page, put, puts}
 use Rattle.shared.specs.Replies.{kindAt}
 use Rattle.shared.proofs.Channels.{puts-two, puts-one}
 use borrow.Author.Needs.{needs}
@@ -17,18 +19,25 @@ put-requires c κs = search needs
 write-kind-at-requires-2 : tie.Need-write-kind-at-requires-2
 write-kind-at-requires-2 c κs = search needs
 
+same-length : tie.Need-same-length
+same-length c = search needs
+
 returns : tie.Need-returns
 returns c =
-    let a = c .before .before .before .before .before .args in
-    let n = c .before .before .before .channels in
-    rw (c .write-kind-at2 .ensures, c .before .put .ensures, c .before .before .before .before .write-kind-at .ensures)
-    (puts-two (a .model) (kindAt (a .readings)) (a .t) (n .result) (n .ensures) (c .before .before .if1 .taken))
+    let a = c .before .before .before .before .before .before .before .before .before .before .before .before .before .before .before .args in
+    let n = c .before .before .before .before .before .before .before .before .before .channels in
+    let comma = c .before .before .before .before .before .before .put .ensures ∙ ap (λ (p : Page). put p 44) (c .before .before .before .before .before .before .before .before .before .before .before .before .write-kind-at .ensures) in
+    c .before .before .write-kind-at2 .ensures ∙ ap (λ (p : Page). puts p (kindAt (a .readings) 1)) comma
+    ∙ puts-two (a .model) (kindAt (a .readings)) (page (a .out .now) (a .at)) (n .result) (n .ensures) (c .before .before .before .before .before .before .before .before .if1 .taken)
+
+same-length-2 : tie.Need-same-length-2
+same-length-2 c = search needs
 
 returns-2 : tie.Need-returns-2
 returns-2 c =
-    let a = c .before .before .before .args in
+    let a = c .before .before .before .before .before .before .before .args in
     let n = c .before .channels in
-    rw (c .before .before .write-kind-at .ensures) (puts-one (a .model) (kindAt (a .readings)) (a .t) (n .result) (n .ensures) (c .if1 .left))
+    c .before .before .before .before .write-kind-at .ensures ∙ puts-one (a .model) (kindAt (a .readings)) (page (a .out .now) (a .at)) (n .result) (n .ensures) (c .if1 .left)
 
 pub write-kinds-spec : {M : Type 1} → statement M
 write-kinds-spec =
@@ -38,5 +47,7 @@ write-kinds-spec =
     channels-requires
     put-requires
     write-kind-at-requires-2
+    same-length
     returns
+    same-length-2
     returns-2)

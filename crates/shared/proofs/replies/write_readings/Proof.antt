@@ -1,12 +1,25 @@
--- The reading of the first channel, and behind a comma that of the second where there is one (`puts-two`, `puts-one`).
+-- The first channel, and behind a comma the second where there is one (`puts-two`, `puts-one`).
+use mathlib.Core.Path.{_≡_, ap, _∙_}
+use native.Mathlib.Omega.{arith}
+use lib.ListN.{length}
+use Rattle.text.specs.Page.{Page, page, put, puts}
+use Rattle.text.proofs.Tables.{entry}
+use Rattle.gauges.specs.Readings.{noReading}
+use Rattle.gauges.specs.Shown.{shownOf, shownText}
 use Rattle.shared.specs.Replies.{shownAt}
 use Rattle.shared.proofs.Channels.{puts-two, puts-one}
 use borrow.Author.Needs.{needs}
 use Rattle.shared.proofs.replies.write_readings.Statement.{statement}
 use Rattle.shared.proofs.replies.write_readings.Tie as tie
 
-write-reading-requires : tie.Need-write-reading-requires
-write-reading-requires c κs = search needs
+array-copy-out-one : tie.Need-array-copy-out-one
+array-copy-out-one c = search needs
+
+shown-requires : tie.Need-shown-requires
+shown-requires c κs = search needs
+
+write-shown-requires : tie.Need-write-shown-requires
+write-shown-requires c κs = search needs
 
 channels-requires : tie.Need-channels-requires
 channels-requires c κs = search needs
@@ -14,29 +27,57 @@ channels-requires c κs = search needs
 put-requires : tie.Need-put-requires
 put-requires c κs = search needs
 
-write-reading-requires-2 : tie.Need-write-reading-requires-2
-write-reading-requires-2 c κs = search needs
+array-copy-out-two : tie.Need-array-copy-out-two
+array-copy-out-two c = search needs
+
+shown-requires-2 : tie.Need-shown-requires-2
+shown-requires-2 c κs = search needs
+
+write-shown-requires-2 : tie.Need-write-shown-requires-2
+write-shown-requires-2 c κs = search needs
+
+same-length : tie.Need-same-length
+same-length c = search needs
 
 returns : tie.Need-returns
 returns c =
-    let a = c .before .before .before .before .before .args in
-    let n = c .before .before .before .channels in
-    rw (c .write-reading2 .ensures, c .before .put .ensures, c .before .before .before .before .write-reading .ensures)
-    (puts-two (a .model) (shownAt (a .unit) (a .readings)) (a .t) (n .result) (n .ensures) (c .before .before .if1 .taken))
+    let a = c .before .before .before .before .before .before .before .before .before .before .before .before .before .before .before .before .before .before .before .args in
+    let all : length (a .t5) ≡ 2 = search needs in
+    let n = c .before .before .before .before .before .before .before .before .before .before .before .channels in
+    let text = shownAt (a .unit) (a .t5) in
+    let p = page (a .out .now) (a .at) in
+    let q = c .before .before .before .before .before .before .before .before .put in
+    let first = c .before .before .before .before .before .before .before .before .before .before .before .before .before .before .write-shown .ensures ∙ ap (λ s. puts p (shownText s)) (c .before .before .before .before .before .before .before .before .before .before .before .before .before .before .before .shown .ensures ∙ ap (λ r. shownOf r (a .unit)) (entry (a .t5) _ noReading 0 (omega arith))) in
+    let second = c .before .before .before .shown2 .ensures ∙ ap (λ r. shownOf r (a .unit)) (entry (a .t5) _ noReading 1 (omega arith)) in
+    c .before .before .write-shown2 .ensures ∙ ap (λ s. puts (page (q .last .0) (q .result)) (shownText s)) second
+    ∙ ap (λ (r : Page). puts r (text 1)) (q .ensures ∙ ap (λ (r : Page). put r 44) first)
+    ∙ puts-two (a .model) text p (n .result) (n .ensures) (c .before .before .before .before .before .before .before .before .before .before .if1 .taken)
+
+same-length-2 : tie.Need-same-length-2
+same-length-2 c = search needs
 
 returns-2 : tie.Need-returns-2
 returns-2 c =
-    let a = c .before .before .before .args in
+    let a = c .before .before .before .before .before .before .before .before .before .args in
+    let all : length (a .t5) ≡ 2 = search needs in
     let n = c .before .channels in
-    rw (c .before .before .write-reading .ensures) (puts-one (a .model) (shownAt (a .unit) (a .readings)) (a .t) (n .result) (n .ensures) (c .if1 .left))
+    let p = page (a .out .now) (a .at) in
+    c .before .before .before .before .write-shown .ensures ∙ ap (λ s. puts p (shownText s)) (c .before .before .before .before .before .shown .ensures ∙ ap (λ r. shownOf r (a .unit)) (entry (a .t5) _ noReading 0 (omega arith)))
+    ∙ puts-one (a .model) (shownAt (a .unit) (a .t5)) p (n .result) (n .ensures) (c .if1 .left)
 
 pub write-readings-spec : {M : Type 1} → statement M
 write-readings-spec =
     tie.close
     (tie.spec
-    write-reading-requires
+    array-copy-out-one
+    shown-requires
+    write-shown-requires
     channels-requires
     put-requires
-    write-reading-requires-2
+    array-copy-out-two
+    shown-requires-2
+    write-shown-requires-2
+    same-length
     returns
+    same-length-2
     returns-2)

@@ -1,57 +1,58 @@
--- Four digits with a comma between, as each callee puts them.
+-- Four digits with a comma between.
+use mathlib.Core.Path.{_∙_}
 use borrow.Author.Needs.{needs}
 use Rattle.shared.proofs.replies.write_switches.Statement.{statement}
 use Rattle.shared.proofs.replies.write_switches.Tie as tie
 
-array-read-write-digit : tie.Need-array-read-write-digit
-array-read-write-digit c = search needs
+array-read-digit-of : tie.Need-array-read-digit-of
+array-read-digit-of c = search needs
 
-write-digit-requires : tie.Need-write-digit-requires
-write-digit-requires c κs = search needs
+digit-of-requires : tie.Need-digit-of-requires
+digit-of-requires c κs = search needs
 
-put-requires : tie.Need-put-requires
-put-requires c κs = search needs
+array-read-digit-of-2 : tie.Need-array-read-digit-of-2
+array-read-digit-of-2 c = search needs
 
-array-read-write-digit-2 : tie.Need-array-read-write-digit-2
-array-read-write-digit-2 c = search needs
+digit-of-requires-2 : tie.Need-digit-of-requires-2
+digit-of-requires-2 c κs = search needs
 
-write-digit-requires-2 : tie.Need-write-digit-requires-2
-write-digit-requires-2 c κs = search needs
+array-read-digit-of-3 : tie.Need-array-read-digit-of-3
+array-read-digit-of-3 c = search needs
 
-put-requires-2 : tie.Need-put-requires-2
-put-requires-2 c κs = search needs
+digit-of-requires-3 : tie.Need-digit-of-requires-3
+digit-of-requires-3 c κs = search needs
 
-array-read-write-digit-3 : tie.Need-array-read-write-digit-3
-array-read-write-digit-3 c = search needs
+array-read-digit-of-4 : tie.Need-array-read-digit-of-4
+array-read-digit-of-4 c = search needs
 
-write-digit-requires-3 : tie.Need-write-digit-requires-3
-write-digit-requires-3 c κs = search needs
+digit-of-requires-4 : tie.Need-digit-of-requires-4
+digit-of-requires-4 c κs = search needs
 
-put-requires-3 : tie.Need-put-requires-3
-put-requires-3 c κs = search needs
+slice-aggregate-append : tie.Need-slice-aggregate-append
+slice-aggregate-append c = search needs
 
-array-read-write-digit-4 : tie.Need-array-read-write-digit-4
-array-read-write-digit-4 c = search needs
+append-requires : tie.Need-append-requires
+append-requires c κs = search needs
 
-write-digit-requires-4 : tie.Need-write-digit-requires-4
-write-digit-requires-4 c κs = search needs
+same-length : tie.Need-same-length
+same-length c = search needs
 
 returns : tie.Need-returns
-returns c = rw (c .write-digit4 .ensures, c .before .put3 .ensures, c .before .before .write-digit3 .ensures, c .before .before .before .put2 .ensures, c .before .before .before .before .write-digit2 .ensures, c .before .before .before .before .before .put .ensures, c .before .before .before .before .before .before .write-digit .ensures)
+returns c = c .before .before .append .ensures ∙ rw (c .before .before .before .before .before .digit-of4 .ensures, c .before .before .before .before .before .before .digit-of3 .ensures, c .before .before .before .before .before .before .before .digit-of2 .ensures, c .before .before .before .before .before .before .before .before .digit-of .ensures)
 
 pub write-switches-spec : {M : Type 1} → statement M
 write-switches-spec =
     tie.close
     (tie.spec
-    array-read-write-digit
-    write-digit-requires
-    put-requires
-    array-read-write-digit-2
-    write-digit-requires-2
-    put-requires-2
-    array-read-write-digit-3
-    write-digit-requires-3
-    put-requires-3
-    array-read-write-digit-4
-    write-digit-requires-4
+    array-read-digit-of
+    digit-of-requires
+    array-read-digit-of-2
+    digit-of-requires-2
+    array-read-digit-of-3
+    digit-of-requires-3
+    array-read-digit-of-4
+    digit-of-requires-4
+    slice-aggregate-append
+    append-requires
+    same-length
     returns)

@@ -87,26 +87,21 @@ enum-known-event c = search needs
 line-text-requires : tie.Need-line-text-requires Inv-loop μ-loop
 line-text-requires c κs = search needs
 
-copy-requires : tie.Need-copy-requires Inv-loop μ-loop
-copy-requires c κs = search needs
-
 heard-requires : tie.Need-heard-requires Inv-loop μ-loop
 heard-requires c κs = search needs
 
 loop-less-3 : tie.Need-loop-less-3 Inv-loop μ-loop
-loop-less-3 c =
-    let b = c .before .before .before .before .before .before .before .before .before .before in
-    omega (arith, b .before .before .before .before .before .loop-test .taken)
+loop-less-3 c = omega (arith, c .before .before .before .before .before .before .before .before .before .before .before .before .before .before .loop-test .taken)
 
 loop-again-3 : tie.Need-loop-again-3 Inv-loop μ-loop
 unfolding eventText
 loop-again-3 c =
     let k = c .before .before .before in
-    let v = k .before .before .before .before in
+    let v = k .before .before .before in
     let b = v .before .before .before in
     let d = b .before .before .before .before in
-    answered (d .before .before .loop .inv) (b .byte .result) (d .before .loop-test .taken) (d .if1 .left) (b .byte .ensures) _ (k .before .before .line-text .result) _ _ _
-    (v .event .given .1) (k .before .before .line-text .ensures) (c .heard .ensures) (k .copy .ensures)
+    answered (d .before .before .loop .inv) (b .byte .result) (d .before .loop-test .taken) (d .if1 .left) (b .byte .ensures) _ _ _ _
+    (v .event .given .1) (c .heard .ensures) (k .line-text .ensures)
 
 enum-known-event-2 : tie.Need-enum-known-event-2 Inv-loop μ-loop
 enum-known-event-2 c = search needs
@@ -114,23 +109,18 @@ enum-known-event-2 c = search needs
 reply-requires : tie.Need-reply-requires Inv-loop μ-loop
 reply-requires c κs = search needs
 
-copy-requires-2 : tie.Need-copy-requires-2 Inv-loop μ-loop
-copy-requires-2 c κs = search needs
-
 loop-less-4 : tie.Need-loop-less-4 Inv-loop μ-loop
-loop-less-4 c =
-    let b = c .before .before .before .before .before .before .before .before .before in
-    omega (arith, b .before .before .before .before .before .loop-test .taken)
+loop-less-4 c = omega (arith, c .before .before .before .before .before .before .before .before .before .before .before .before .before .loop-test .taken)
 
 loop-again-4 : tie.Need-loop-again-4 Inv-loop μ-loop
 unfolding eventText
 loop-again-4 c =
     let k = c .before .before in
-    let v = k .before .before .before .before in
+    let v = k .before .before .before in
     let b = v .before .before .before in
     let d = b .before .before .before .before in
-    answered (d .before .before .loop .inv) (b .byte .result) (d .before .loop-test .taken) (d .if1 .left) (b .byte .ensures) _ (k .before .before .reply .result) _ _ _
-    (v .event2 .given .1) (k .before .before .reply .ensures) refl (k .copy2 .ensures)
+    answered (d .before .before .loop .inv) (b .byte .result) (d .before .loop-test .taken) (d .if1 .left) (b .byte .ensures) _ _ _ _
+    (v .event2 .given .1) refl (k .reply .ensures)
 
 finished-requires-2 : tie.Need-finished-requires-2 Inv-loop μ-loop
 finished-requires-2 c κs = search needs
@@ -167,13 +157,11 @@ run-spec =
     loop-again-2
     enum-known-event
     line-text-requires
-    copy-requires
     heard-requires
     loop-less-3
     loop-again-3
     enum-known-event-2
     reply-requires
-    copy-requires-2
     loop-less-4
     loop-again-4
     finished-requires-2

@@ -1,3 +1,5 @@
+-- The verdict tells the case.
+use mathlib.Core.Path.{_∙_}
 use borrow.Author.Needs.{needs}
 use Rattle.tpg.proofs.host.line_text.Statement.{statement}
 use Rattle.tpg.proofs.host.line_text.Tie as tie
@@ -5,64 +7,64 @@ use Rattle.tpg.proofs.host.line_text.Tie as tie
 enum-told : tie.Need-enum-told
 enum-told c = search needs
 
-empty-requires : tie.Need-empty-requires
-empty-requires c κs = search needs
+slice-aggregate-append : tie.Need-slice-aggregate-append
+slice-aggregate-append c = search needs
 
-put-requires : tie.Need-put-requires
-put-requires c κs = search needs
-
-end-line-requires : tie.Need-end-line-requires
-end-line-requires c κs = search needs
+append-requires : tie.Need-append-requires
+append-requires c κs = search needs
 
 enum-told-2 : tie.Need-enum-told-2
 enum-told-2 c = search needs
 
-empty-requires-2 : tie.Need-empty-requires-2
-empty-requires-2 c κs = search needs
+slice-aggregate-append-2 : tie.Need-slice-aggregate-append-2
+slice-aggregate-append-2 c = search needs
 
-put-requires-2 : tie.Need-put-requires-2
-put-requires-2 c κs = search needs
-
-end-line-requires-2 : tie.Need-end-line-requires-2
-end-line-requires-2 c κs = search needs
+append-requires-2 : tie.Need-append-requires-2
+append-requires-2 c κs = search needs
 
 enum-told-3 : tie.Need-enum-told-3
 enum-told-3 c = search needs
 
-empty-requires-3 : tie.Need-empty-requires-3
-empty-requires-3 c κs = search needs
+slice-aggregate-append-3 : tie.Need-slice-aggregate-append-3
+slice-aggregate-append-3 c = search needs
 
-put-requires-3 : tie.Need-put-requires-3
-put-requires-3 c κs = search needs
+append-requires-3 : tie.Need-append-requires-3
+append-requires-3 c κs = search needs
 
-end-line-requires-3 : tie.Need-end-line-requires-3
-end-line-requires-3 c κs = search needs
+same-length : tie.Need-same-length
+same-length c = search needs
 
 returns : tie.Need-returns
-returns c = rw (c .end-line .ensures, c .before .put .ensures, c .before .before .empty .ensures, c .before .before .before .enum-told .given .1)
+returns c = c .before .before .append .ensures ∙ rw (c .before .before .before .before .before .enum-told .given .1)
+
+same-length-2 : tie.Need-same-length-2
+same-length-2 c = search needs
 
 returns-2 : tie.Need-returns-2
-returns-2 c = rw (c .end-line2 .ensures, c .before .put2 .ensures, c .before .before .empty2 .ensures, c .before .before .before .enum-told2 .given .1)
+returns-2 c = c .before .before .append2 .ensures ∙ rw (c .before .before .before .before .before .enum-told2 .given .1)
+
+same-length-3 : tie.Need-same-length-3
+same-length-3 c = search needs
 
 returns-3 : tie.Need-returns-3
-returns-3 c = rw (c .end-line3 .ensures, c .before .put3 .ensures, c .before .before .empty3 .ensures, c .before .before .before .enum-told3 .given .1)
+returns-3 c = c .before .before .append3 .ensures ∙ rw (c .before .before .before .before .before .enum-told3 .given .1)
 
 pub line-text-spec : {M : Type 1} → statement M
 line-text-spec =
     tie.close
     (tie.spec
     enum-told
-    empty-requires
-    put-requires
-    end-line-requires
+    slice-aggregate-append
+    append-requires
     enum-told-2
-    empty-requires-2
-    put-requires-2
-    end-line-requires-2
+    slice-aggregate-append-2
+    append-requires-2
     enum-told-3
-    empty-requires-3
-    put-requires-3
-    end-line-requires-3
+    slice-aggregate-append-3
+    append-requires-3
+    same-length
     returns
+    same-length-2
     returns-2
+    same-length-3
     returns-3)

@@ -1,0 +1,25 @@
+-- The text of the query and then the end of the line.
+use Rattle.text.specs.Page.{page}
+use Rattle.text.proofs.Pages.{then}
+use Rattle.lines.specs.Replies.{lineEnd}
+use Rattle.shared.specs.Replies.{queryText}
+use borrow.Author.Needs.{needs}
+use Rattle.shared.proofs.Shared.query_reply.Statement.{statement}
+use Rattle.shared.proofs.Shared.query_reply.Tie as tie
+
+write-query-requires : tie.Need-write-query-requires
+write-query-requires c κs = search needs
+
+end-line-requires : tie.Need-end-line-requires
+end-line-requires c κs = search needs
+
+same-length : tie.Need-same-length
+same-length c = search needs
+
+returns : tie.Need-returns
+returns c =
+    let a = c .before .before .before .before .before .before .before .before .before .args in
+    then (page (a .out .now) (a .at)) (queryText (a .self) (a .error) (a .q)) lineEnd (c .before .before .before .before .before .before .write-query .ensures) (c .before .before .end-line .ensures)
+
+pub query-reply-spec : {M : Type 1} → statement M
+query-reply-spec = tie.close (tie.spec write-query-requires end-line-requires same-length returns)

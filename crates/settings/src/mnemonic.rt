@@ -1,8 +1,11 @@
 // The mnemonics: families that carry a number where there are several of a kind.
 ghost use mathlib.Core.Path.{_≡_};
 ghost use mathlib.Core.List.{[], _∷_};
-ghost use Prim.Native.Nat.{_<_};
-ghost use Rattle.settings.specs.Mnemonics.{sheetAt, knownAt, name, same, recognised, channelOf, isKnown, answers, isErr};
+ghost use mathlib.Core.Bool.{_&&_};
+ghost use Prim.Native.Nat.{_<_, _+_, _*_};
+ghost use lib.Dec.{eqb};
+ghost use lib.ListN.{getD};
+ghost use Rattle.settings.specs.Mnemonics.{sheetAt, knownAt, name, recognised, channelOf, isKnown, answers, isErr};
 ghost use Rattle.settings.specs.declared.mnemonic.Mnemonic.the-variants.{Setting as Of};
 use crate::model::Model;
 
@@ -81,6 +84,17 @@ pub enum Named {
     Unknown,
 }
 
+// Whether three letters are the name i of a table of names.
+fn spells(names: &[u8; 84], i: usize, a: u8, b: u8, c: u8) -> bool
+    requires { ⌜ i < 28 ⌝ }
+    ensures { λ r. ⌜ r ≡ (eqb (getD (now (names .entry)) (i * 3) 0) a && (eqb (getD (now (names .entry)) (i * 3 + 1) 0) b && eqb (getD (now (names .entry)) (i * 3 + 2) 0) c)) ⌝ }
+{
+    let x = names[i * 3] == a;
+    let y = names[i * 3 + 1] == b;
+    let z = names[i * 3 + 2] == c;
+    x & (y & z)
+}
+
 impl Model {
     // how many mnemonics a box knows
     const KNOWN: usize = 28;
@@ -105,24 +119,15 @@ impl Model {
         OTHERS[i - Model::SHEET_LENGTH]
     }
 
-    // Whether the letters are the name of the mnemonic i.
-    fn spells(self, i: usize, a: u8, b: u8, c: u8) -> bool
-        requires { ⌜ i < 28 ⌝ }
-        ensures { λ r. ⌜ r ≡ same (name (knownAt self i)) (a ∷ b ∷ c ∷ []) ⌝ }
-    {
-        let x = NAMES[i * 3] == a;
-        let y = NAMES[i * 3 + 1] == b;
-        let z = NAMES[i * 3 + 2] == c;
-        x & (y & z)
-    }
-
     // The mnemonic of three letters.
     pub fn named(self, a: u8, b: u8, c: u8) -> Named
         ensures { λ r. ⌜ r ≡ recognised self (a ∷ b ∷ c ∷ []) ⌝ }
     {
+        // the table is copied where it is named: once, and not at each name
+        let names = NAMES;
         let mut i: usize = 0;
         while i < Model::KNOWN {
-            if self.spells(i, a, b, c) {
+            if spells(&names, i, a, b, c) {
                 return Named::Known(self.known_at(i));
             }
             i += 1;

@@ -3,21 +3,27 @@ use Prim.Native.Nat.{ℕ, _≤_, _<_, _-_}
 use mathlib.Core.Path.{_≡_, refl, sym, ap, _∙_}
 use mathlib.Core.List.{List, [], _∷_}
 use lib.ListN.{length, drop}
-use Rattle.settings.specs.Mnemonics.{known, recognised, found}
+use Rattle.settings.specs.Mnemonics.{known, knownAt, name, same, recognised, found}
 use Rattle.settings.specs.declared.mnemonic.Setting.the-variants.{Uni}
 use Rattle.settings.specs.declared.mnemonic.Mnemonic.the-variants.{Setting as Of}
 use Rattle.settings.specs.declared.mnemonic.Named.the-variants.{Known}
-use Rattle.settings.proofs.Names.{found-hit, found-miss, found-end, known-length}
+use Rattle.settings.proofs.Names.{spelt, found-hit, found-miss, found-end, known-length}
 use borrow.Author.Needs.{needs}
 use native.Mathlib.Omega.{arith}
 use Rattle.settings.proofs.model.Model.named.Statement.{statement}
 use Rattle.settings.proofs.model.Model.named.Tie as tie
 
 abbrev Inv-loop : tie.InvT-loop
-Inv-loop self a b c i₀ i = (i ≤ 28) × (found (a ∷ b ∷ c ∷ []) (drop i (known self)) ≡ recognised self (a ∷ b ∷ c ∷ []))
+Inv-loop self a b c names i₀ i = (i ≤ 28) × (found (a ∷ b ∷ c ∷ []) (drop i (known self)) ≡ recognised self (a ∷ b ∷ c ∷ []))
 
 abbrev μ-loop : tie.MeasureT-loop
-μ-loop self a b c i₀ i = 28 - i
+μ-loop self a b c names i₀ i = 28 - i
+
+-- whether the letters spell the name at i
+spelled : (c : tie.After-spells Inv-loop μ-loop) → same (name (knownAt (c .before .before .before .before .args .self) (c .before .before .before .loop .i))) (c .before .before .before .before .args .a ∷ c .before .before .before .before .args .b ∷ c .before .before .before .before .args .c ∷ []) ≡ c .spells .result
+spelled c =
+    let a = c .before .before .before .before .args in
+    sym (c .spells .ensures ∙ spelt (a .self) (c .before .before .before .loop .i) (c .before .before .loop-test .taken) (a .a) (a .b) (a .c))
 
 loop-holds : tie.Need-loop-holds Inv-loop μ-loop
 unfolding recognised
@@ -31,12 +37,11 @@ known-at-requires c κs = search needs
 
 returns : tie.Need-returns Inv-loop μ-loop
 returns c =
-    let l = c .before .before .before .before .loop in
-    let a = c .before .before .before .before .before .args in
+    let l = c .before .before .before .before .before .loop in
+    let a = c .before .before .before .before .before .before .args in
     let w : List ℕ = a .a ∷ a .b ∷ a .c ∷ [] in
     let n : l .i < length (known (a .self)) = omega (arith, known-length (a .self)) in
-    ap Known (c .known-at .ensures)
-    ∙ sym (found-hit w (known (a .self)) (l .i) (Of Uni) n (sym (c .before .before .spells .ensures) ∙ c .before .if1 .taken)) ∙ l .inv .1
+    ap Known (c .known-at .ensures) ∙ sym (found-hit w (known (a .self)) (l .i) (Of Uni) n (spelled (c .before .before) ∙ c .before .if1 .taken)) ∙ l .inv .1
 
 add-i : tie.Need-add-i Inv-loop μ-loop
 add-i c = search needs
@@ -46,11 +51,11 @@ loop-less c = search needs
 
 loop-again : tie.Need-loop-again Inv-loop μ-loop
 loop-again c =
-    let l = c .before .before .before .loop in
-    let a = c .before .before .before .before .args in
+    let l = c .before .before .before .before .loop in
+    let a = c .before .before .before .before .before .args in
     let w : List ℕ = a .a ∷ a .b ∷ a .c ∷ [] in
     let n : l .i < length (known (a .self)) = omega (arith, known-length (a .self)) in
-    (omega arith, sym (found-miss w (known (a .self)) (l .i) (Of Uni) n (sym (c .before .spells .ensures) ∙ c .if1 .left)) ∙ l .inv .1)
+    (omega arith, sym (found-miss w (known (a .self)) (l .i) (Of Uni) n (spelled (c .before) ∙ c .if1 .left)) ∙ l .inv .1)
 
 returns-2 : tie.Need-returns-2 Inv-loop μ-loop
 returns-2 c =

@@ -2,7 +2,7 @@
 use Prim.Native.Nat.{ℕ, _-_, _≤_}
 use mathlib.Core.Path.{_≡_, refl}
 use mathlib.Core.List.{List}
-use mathlib.Core.Bool.{true, false}
+use mathlib.Core.Bool.{true, false, and-true as and-end}
 use borrow.Author.Tests.{leb-true}
 use lib.ListN.{length}
 use lib.Dec.{leb}
@@ -20,6 +20,11 @@ use Rattle.tpg.specs.declared.answers.Outcome.{Outcome}
 pub roomy : (s : State) (least room : ℕ) → admits s least room ≡ true → least ≤ room
 unfolding admits
 roomy s least room e = leb-true least room (and-true (stateWithin s) (leb least room) e .1)
+
+-- where no output is asked for, the state alone decides
+pub without-output : (s : State) → admits s 0 0 ≡ stateWithin s
+unfolding admits
+without-output s = and-end (stateWithin s)
 
 module _ (s : State) (least : ℕ) (o : Outcome) (bytes out : List ℕ) where
   pub admitted : admits s least (length out) ≡ true → (o ≡ roomed s least (length out) o) × (over bytes out ≡ over (roomedBytes s least (length out) bytes) out)

@@ -17,6 +17,9 @@ use settings::model::Numbered;
 use shared::Shared;
 use text::append;
 
+// What a call without an output asks for.
+const NO_OUTPUT: usize = 0;
+
 // A fresh box, and an answer.
 fn made(model: Model, serial: u32, answer: Answer) -> Outcome
     ensures { λ r. ⌜ r ≡ handed answer (freshBox model serial) ⌝ }
@@ -63,7 +66,7 @@ impl State {
             status,
             value,
         };
-        if self.is_within() {
+        if self.admits(NO_OUTPUT, 0) {
             if (1 <= channel) & ((channel as usize) <= model.channels()) {
                 if r.is_within() {
                     return self.take(channel - 1, r);
@@ -122,7 +125,7 @@ impl State {
         let shared = self.shared;
         let model = shared.model;
         let saved = shared.saved;
-        if self.is_within() {
+        if self.admits(NO_OUTPUT, 0) {
             return State::start(model, shared.serial, saved).with_answer(Answer::Accepted);
         }
         self.with_answer(Answer::BrokenState)

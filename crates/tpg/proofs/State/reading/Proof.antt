@@ -5,19 +5,19 @@ use mir.Facts.{toZ-ofZ}
 use borrow.Author.Tests.{leb-true}
 use Rattle.numbers.proofs.Cases.{and-true}
 use Rattle.tpg.specs.Calls.{isChannel}
-use Rattle.tpg.proofs.Deciding.{unsound, elsewhere, outside, accepted}
+use Rattle.tpg.proofs.Deciding.{without-output, unsound, elsewhere, outside, accepted}
 use borrow.Author.Needs.{needs}
 use Rattle.tpg.proofs.State.reading.Statement.{statement}
 use Rattle.tpg.proofs.State.reading.Tie as tie
 
-is-within-requires : tie.Need-is-within-requires
-is-within-requires c κs = search needs
+admits-requires : tie.Need-admits-requires
+admits-requires c κs = search needs
 
 channels-requires : tie.Need-channels-requires
 channels-requires c κs = search needs
 
-is-within-requires-2 : tie.Need-is-within-requires-2
-is-within-requires-2 c κs = search needs
+is-within-requires : tie.Need-is-within-requires
+is-within-requires c κs = search needs
 
 sub-take : tie.Need-sub-take
 sub-take c = leb-true _ _ (and-true _ _ (c .before .before .if2 .taken) .0)
@@ -32,8 +32,8 @@ returns c =
     let a = i .before .before .args in
     let there : isChannel (a .self .shared .model) (a .channel) ≡ true = rw (← t .before .channels .ensures) (t .if2 .taken) in
     rw (← toZ-ofZ (i .before .before .fits .mantissa), ← toZ-ofZ (i .before .before .fits .exponent))
-    (c .take .ensures ∙ accepted (a .self) (a .channel) _ (sym (i .is-within .ensures) ∙ t .before .before .if1 .taken) there
-    (sym (c .before .before .is-within2 .ensures) ∙ c .before .if3 .taken))
+    (c .take .ensures ∙ accepted (a .self) (a .channel) _ (sym (i .admits .ensures ∙ without-output (a .self)) ∙ t .before .before .if1 .taken) there
+    (sym (c .before .before .is-within .ensures) ∙ c .before .if3 .taken))
 
 with-answer-requires : tie.Need-with-answer-requires
 with-answer-requires c κs = search needs
@@ -45,8 +45,8 @@ returns-2 c =
     let a = i .before .before .args in
     let there : isChannel (a .self .shared .model) (a .channel) ≡ true = rw (← t .before .channels .ensures) (t .if2 .taken) in
     rw (← toZ-ofZ (i .before .before .fits .mantissa), ← toZ-ofZ (i .before .before .fits .exponent))
-    (c .with-answer .ensures ∙ outside (a .self) (a .channel) _ (sym (i .is-within .ensures) ∙ t .before .before .if1 .taken) there
-    (sym (c .before .before .is-within2 .ensures) ∙ c .before .if3 .left))
+    (c .with-answer .ensures ∙ outside (a .self) (a .channel) _ (sym (i .admits .ensures ∙ without-output (a .self)) ∙ t .before .before .if1 .taken) there
+    (sym (c .before .before .is-within .ensures) ∙ c .before .if3 .left))
 
 with-answer-requires-2 : tie.Need-with-answer-requires-2
 with-answer-requires-2 c κs = search needs
@@ -57,7 +57,7 @@ returns-3 c =
     let i = t .before .before .before in
     let a = i .before .before .args in
     let absent : isChannel (a .self .shared .model) (a .channel) ≡ false = rw (← t .before .channels .ensures) (t .if2 .left) in
-    c .with-answer2 .ensures ∙ elsewhere (a .self) (a .channel) _ (sym (i .is-within .ensures) ∙ t .before .before .if1 .taken) absent
+    c .with-answer2 .ensures ∙ elsewhere (a .self) (a .channel) _ (sym (i .admits .ensures ∙ without-output (a .self)) ∙ t .before .before .if1 .taken) absent
 
 with-answer-requires-3 : tie.Need-with-answer-requires-3
 with-answer-requires-3 c κs = search needs
@@ -65,15 +65,15 @@ with-answer-requires-3 c κs = search needs
 returns-4 : tie.Need-returns-4
 returns-4 c =
     let a = c .before .before .before .before .args in
-    c .with-answer3 .ensures ∙ unsound (a .self) (a .channel) _ (sym (c .before .before .is-within .ensures) ∙ c .before .if1 .left)
+    c .with-answer3 .ensures ∙ unsound (a .self) (a .channel) _ (sym (c .before .before .admits .ensures ∙ without-output (a .self)) ∙ c .before .if1 .left)
 
 pub reading-spec : {M : Type 1} → statement M
 reading-spec =
     tie.close
     (tie.spec
-    is-within-requires
+    admits-requires
     channels-requires
-    is-within-requires-2
+    is-within-requires
     sub-take
     take-requires
     returns

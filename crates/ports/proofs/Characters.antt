@@ -1,8 +1,8 @@
--- A run of characters and spaces: gathered in one go, it is what it is byte by byte.
+-- What the host's run takes without asking for the kind of a byte: characters and spaces, gathered in one go, and an ENQ.
 use Prim.Native.Nat.{ℕ, _+_, _≤_, _<_}
-use mathlib.Core.Path.{_≡_, refl, ap, _∙_}
+use mathlib.Core.Path.{_≡_, refl, sym, ap, _∙_}
 use mathlib.Core.List.{List, [], _∷_}
-use mathlib.Core.Bool.{Bool, true, false, cond, not, _&&_}
+use mathlib.Core.Bool.{Bool, true, false, cond, not, _&&_, and-false}
 use native.Mathlib.Omega.{arith}
 use native.Mathlib.Nat.{add-zero}
 use native.Mathlib.Numerals.{add-one}
@@ -12,9 +12,11 @@ use lib.Seq.{drop-cons}
 use lib.Dec.{eqb, ltb}
 use Rattle.numbers.proofs.Cases.{never, and-true, ranged}
 use Rattle.settings.specs.declared.model.Model.{Model}
+use Rattle.settings.specs.declared.mnemonic.Mnemonic.{Mnemonic}
 use Rattle.ports.specs.Line.{blank, withLine, grown}
-use Rattle.ports.specs.Hearing.{kindOf, withMark, settled, quiet, byKind, heard, isTyped, typing, typedOne, typedAll}
+use Rattle.ports.specs.Hearing.{kindOf, asked, settled, quiet, byKind, heard, isTyped, typing, typedOne, typedAll}
 use Rattle.ports.specs.declared.Port.{Port}
+use Rattle.ports.specs.declared.Event.the-variants.{Reply}
 use Rattle.ports.specs.declared.typing.Typed.{Typed}
 use Rattle.ports.specs.declared.hearing.ByteKind.the-variants.{Dropped, Character, Spoiling}
 
@@ -43,10 +45,6 @@ either false false x y h = never (cc)
 neither : (s t : Bool) → not s && not t ≡ true → (s ≡ false) × (t ≡ false)
 neither s t h = let b = and-true (not s) (not t) h in (not-true s (b .0), not-true t (b .1))
 
-never-both : {A : Type 0} (t : Bool) (x y : A) → cond (t && false) x y ≡ y
-never-both true x y = refl
-never-both false x y = refl
-
 -- a typed byte is none of those below the space
 module _ (b : ℕ) (e : isTyped b ≡ true) where
   range : (32 ≤ b) × (b ≤ 126)
@@ -68,69 +66,80 @@ module _ (b : ℕ) (e : isTyped b ≡ true) where
 -- whatever the model, and straight after a CR too
 pub typed-heard : (model : Model) (p : Port) (b : ℕ) → isTyped b ≡ true → heard model p b ≡ quiet (typedOne p b)
 unfolding heard typedOne byKind
-typed-heard model p b e =
-    rw (other b e 10 (omega arith), never-both (p .ended) (quiet (withMark p false)) (byKind model (kindOf b) (settled p) b), kind-typed b e) (by (eqb b 32))
+typed-heard model p b e = rw (other b e 10 (omega arith), and-false (p .ended), kind-typed b e) (by (eqb b 32))
   where
     by : (t : Bool) → byKind model (cond t Dropped Character) (settled p) b ≡ quiet (cond t (settled p) (grown (settled p) b))
     by true = refl
     by false = refl
 
+-- an ENQ asked of the settled port, its reply and its port apart, is heard so, straight after a CR too
+pub enq-heard : (model : Model) (p q next : Port) (m : Mnemonic) (b : ℕ) → b ≡ 5 → q ≡ settled p → Reply m (q .error) ≡ asked q .event → next ≡ asked q .port
+    → record { port = next; event = Reply m (q .error) } ≡ heard model p b
+unfolding heard kindOf byKind
+enq-heard model p q next m b enq settles event port = rw (enq, and-false (p .ended), ← settles) (λ i. record { port = port i; event = event i })
+
 -- ---- the run
 
--- where the gathering stands at the place i, with the line so far
-pub record Gathering (p : Port) (input : List ℕ) (from : ℕ) (line : List ℕ) (len : ℕ) (bad : Bool) (i : ℕ) : Type 0 where
-  pub port : typedAll (settled p) (typing (drop from input)) ≡ typedAll (withLine (settled p) line len bad) (typing (drop i input))
+-- the port with other places of its line, and all else as it was
+abbrev lined : Port → List ℕ → Port
+lined p line = withLine p line (p .len) (p .bad)
+
+-- where the gathering stands at the place i, with the line so far in the port
+pub record Gathering (p : Port) (input : List ℕ) (from : ℕ) (port : Port) (len : ℕ) (bad : Bool) (i : ℕ) : Type 0 where
+  pub same : port ≡ lined p (port .line)
+  pub all : typedAll (settled p) (typing (drop from input)) ≡ typedAll (withLine (settled port) (port .line) len bad) (typing (drop i input))
   pub count : from + length (typing (drop from input)) ≡ i + length (typing (drop i input))
 
-pub start : (p : Port) (input : List ℕ) (from : ℕ) → Gathering p input from (p .line) (p .len) (p .bad) from
-start p input from = record { port = refl; count = refl }
+pub start : (p : Port) (input : List ℕ) (from : ℕ) → Gathering p input from p (p .len) (p .bad) from
+start p input from = record { same = refl; all = refl; count = refl }
 
--- the port before the run is settled by its first byte, where there is one
-settled-first : (p : Port) (from i : ℕ) (bs : List ℕ) → from + length bs ≡ i → cond (ltb from i) (typedAll (settled p) bs) p ≡ typedAll p bs
+-- the port is settled by the first byte of the run; without one it is as it was
+settled-first : (p port now : Port) (from i : ℕ) (bs : List ℕ) → from + length bs ≡ i → port ≡ lined p (now .line) → typedAll (settled p) bs ≡ now
+    → cond (ltb from i) now port ≡ typedAll p bs
 unfolding typedAll typedOne
-settled-first p from i [] e = rw (le-ltb from i (omega arith))
-settled-first p from i (b ∷ bs) e = rw (lt-ltb from i (omega arith))
+settled-first p port now from i [] e same all = rw (le-ltb from i (omega arith)) (same ∙ ap (λ (x : Port). lined p (x .line)) (sym all))
+settled-first p port now from i (b ∷ bs) e same all = rw (lt-ltb from i (omega arith)) (sym all)
 
-module _ {p : Port} {input : List ℕ} {from : ℕ} {line : List ℕ} {len : ℕ} {bad : Bool} {i : ℕ} (g : Gathering p input from line len bad i) where
+module _ {p : Port} {input : List ℕ} {from : ℕ} {port : Port} {len : ℕ} {bad : Bool} {i : ℕ} (g : Gathering p input from port len bad i) where
   abbrev now : Port
-  now = withLine (settled p) line len bad
+  now = withLine (settled port) (port .line) len bad
 
   abbrev byte : ℕ
   byte = getD input i 0
 
   -- a byte more, by the tests of the code
   module _ (more : i < length input) (typed : isTyped byte ≡ true) where
-    step : (line' : List ℕ) (len' : ℕ) (bad' : Bool) → typedOne now byte ≡ withLine (settled p) line' len' bad' → Gathering p input from line' len' bad' (i + 1)
+    step : (line : List ℕ) (len' : ℕ) (bad' : Bool) → typedOne now byte ≡ withLine (settled port) line len' bad' → Gathering p input from (lined port line) len' bad' (i + 1)
     unfolding typedAll
-    step line' len' bad' q =
+    step line len' bad' q =
         let m = typing-more input i more typed in
         record {
-          port = g .port ∙ ap (typedAll now) m ∙ ap (λ (x : Port). typedAll x (typing (drop (i + 1) input))) q;
+          same = ap (λ (x : Port). lined x line) (g .same);
+          all = g .all ∙ ap (typedAll now) m ∙ ap (λ (x : Port). typedAll x (typing (drop (i + 1) input))) q;
           count = g .count ∙ rw m (omega arith);
         }
 
-    pub kept : not (eqb byte 32) && not bad ≡ false → Gathering p input from line len bad (i + 1)
+    pub kept : not (eqb byte 32) && not bad ≡ false → Gathering p input from port len bad (i + 1)
     unfolding typedOne grown
-    kept h = step line len bad (either (eqb byte 32) bad now _ h)
+    kept h = step (port .line) len bad (either (eqb byte 32) bad now _ h)
 
     module _ (h : not (eqb byte 32) && not bad ≡ true) where
       tests : (eqb byte 32 ≡ false) × (bad ≡ false)
       tests = neither (eqb byte 32) bad h
 
-      pub longer : len < 80 → Gathering p input from (set line len byte) (len + 1) bad (i + 1)
+      pub longer : len < 80 → Gathering p input from (lined port (set (port .line) len byte)) (len + 1) bad (i + 1)
       unfolding typedOne grown
-      longer l = step (set line len byte) (len + 1) bad (rw (tests .0, tests .1, lt-ltb len 80 l))
+      longer l = step (set (port .line) len byte) (len + 1) bad (rw (tests .0, tests .1, lt-ltb len 80 l))
 
-      pub spoils : 80 ≤ len → Gathering p input from blank 0 true (i + 1)
+      pub spoils : 80 ≤ len → Gathering p input from (lined port blank) 0 true (i + 1)
       unfolding typedOne grown
       spoils l = step blank 0 true (rw (tests .0, tests .1, le-ltb len 80 l))
 
   pub ended : typing (drop i input) ≡ []
-      → _≡_ {A = Typed} (record { port = cond (ltb from i) now p; at = i })
+      → _≡_ {A = Typed} (record { port = cond (ltb from i) now port; at = i })
       (record { port = typedAll p (typing (drop from input)); at = from + length (typing (drop from input)) })
   unfolding typedAll
   ended e =
       let bs = typing (drop from input) in
       let at : from + length bs ≡ i = g .count ∙ rw e (add-zero i) in
-      let port : typedAll (settled p) bs ≡ now = g .port ∙ ap (typedAll now) e in
-      rw (at, ← port, settled-first p from i bs at)
+      rw (at, settled-first p port now from i bs at (g .same) (g .all ∙ ap (typedAll now) e))

@@ -1,6 +1,7 @@
 // One byte of the host: what it does to the port, and what it makes the box do.
 ghost use mathlib.Core.Path.{_≡_};
-ghost use Rattle.ports.specs.Hearing.{kindOf, freshPort, withMark, withChoice, selected, accepted, refused, concluded, lineEnd, dropped, worded, replied, asked, quiet, byKind, heard};
+ghost use Rattle.ports.specs.Hearing.{kindOf, freshPort, withMark, withChoice, selected, accepted, refused, concluded, lineEnd, dropped, replied, asked, quiet, settled, byKind, heard};
+ghost use Rattle.ports.specs.declared.Event.the-variants.{Reply};
 use crate::Event;
 use crate::Heard;
 use crate::Port;
@@ -19,7 +20,7 @@ const LF: u8 = 10;
 
 const ETX: u8 = 3;
 
-const ENQ: u8 = 5;
+pub const ENQ: u8 = 5;
 
 pub(crate) const SPACE: u8 = 32;
 
@@ -154,43 +155,54 @@ impl Port {
         self.emptied().with_choice(Selection::Nothing, error)
     }
 
-    // An ENQ that the error word answers.
-    fn worded(self) -> Heard
-        ensures { λ r. ⌜ r ≡ worded self ⌝ }
+    // The mnemonic whose reply an ENQ sends: the selected one on an empty line, else ERR's, the error word.
+    pub fn enquiry(self) -> Mnemonic
+        ensures { λ r. ⌜ Reply r (self .error) ≡ asked self .event ⌝ }
     {
-        let error = self.error;
-        let port = self.dropped(Word::none());
-        Heard {
-            port,
-            event: Event::Reply(Mnemonic::Query(Query::Err), error),
+        let selection = self.selection;
+        if self.is_empty() {
+            match selection {
+                Selection::Nothing => Mnemonic::Query(Query::Err),
+                Selection::Of(m) => m,
+            }
+        } else {
+            Mnemonic::Query(Query::Err)
         }
     }
 
-    // An ENQ that a selection answers; sent through ERR, too, the word is gone.
-    fn replied(self, m: Mnemonic) -> Heard
-        ensures { λ r. ⌜ r ≡ replied self m ⌝ }
+    // After the reply of a selection: sent through ERR, the word is gone.
+    fn replied(self, m: Mnemonic) -> Port
+        ensures { λ r. ⌜ r ≡ replied self m .port ⌝ }
     {
-        let error = self.error;
-        let event = Event::Reply(m, error);
+        let selection = Selection::Of(m);
         if m.is_err() {
-            let port = self.with_choice(Selection::Of(m), Word::none());
-            return Heard { port, event };
+            return self.with_choice(selection, Word::none());
         }
-        Heard { port: self, event }
+        self
+    }
+
+    // The port after an ENQ.
+    pub fn enquired(self) -> Port
+        ensures { λ r. ⌜ r ≡ asked self .port ⌝ }
+    {
+        let selection = self.selection;
+        if self.is_empty() {
+            match selection {
+                Selection::Nothing => self.dropped(Word::none()),
+                Selection::Of(m) => self.replied(m),
+            }
+        } else {
+            self.dropped(Word::none())
+        }
     }
 
     fn asked(self) -> Heard
         ensures { λ r. ⌜ r ≡ asked self ⌝ }
     {
-        let selection = self.selection;
-        if self.is_empty() {
-            match selection {
-                Selection::Nothing => self.worded(),
-                Selection::Of(m) => self.replied(m),
-            }
-        } else {
-            self.worded()
-        }
+        let error = self.error;
+        let event = Event::Reply(self.enquiry(), error);
+        let port = self.enquired();
+        Heard { port, event }
     }
 
     // Nothing is sent.
@@ -217,14 +229,20 @@ impl Port {
         }
     }
 
+    // As every byte leaves it but an LF straight after a CR: not straight after a CR, the stream stopped.
+    pub fn settled(self) -> Port
+        ensures { λ r. ⌜ r ≡ settled self ⌝ }
+    {
+        self.marked(false).stopped()
+    }
+
     // One byte of the host, on a box of the model.
     pub fn byte(self, model: Model, b: u8) -> Heard
         ensures { λ r. ⌜ r ≡ heard model self b ⌝ }
     {
-        let port = self.marked(false);
         if self.ended & (b == LF) {
-            return port.quiet();
+            return self.marked(false).quiet();
         }
-        port.stopped().by_kind(model, kind_of(b), b)
+        self.settled().by_kind(model, kind_of(b), b)
     }
 }

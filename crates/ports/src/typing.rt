@@ -24,13 +24,12 @@ pub fn is_typed(b: u8) -> bool
 }
 
 impl Port {
-    // The port after the bytes between two places, with the line that they left; after none it is as it was.
-    fn gathered(self, line: [u8; 80], len: usize, bad: bool, from: usize, at: usize) -> Typed
-        ensures { λ r. ⌜ r ≡ record { port = cond (ltb from at) (withLine (settled self) line len bad) self; at = at } ⌝ }
+    // The port after the bytes between two places, whose line is gathered already; after none it is as it was.
+    fn gathered(self, len: usize, bad: bool, from: usize, at: usize) -> Typed
+        ensures { λ r. ⌜ r ≡ record { port = cond (ltb from at) (withLine (settled self) (self .line) len bad) self; at = at } ⌝ }
     {
+        let mut port = self;
         if from < at {
-            let mut port = self;
-            port.line = line;
             port.len = len;
             port.bad = bad;
             port.ended = false;
@@ -38,34 +37,34 @@ impl Port {
             port.ticks = 0;
             return Typed { port, at };
         }
-        Typed { port: self, at }
+        Typed { port, at }
     }
 
     // All bytes typed from a place on, up to the first that is another.
     pub fn typed(self, input: &[u8], from: usize) -> Typed
         ensures { λ r. ⌜ r ≡ record { port = typedAll self (typing (drop from (now (input .entry)))); at = from + length (typing (drop from (now (input .entry)))) } ⌝ }
     {
-        let mut line = self.line;
+        let mut port = self;
         let mut len = self.len;
         let mut bad = self.bad;
         let mut i = from;
         while i < input.len() {
             let b = input[i];
             if !is_typed(b) {
-                return self.gathered(line, len, bad, from, i);
+                return port.gathered(len, bad, from, i);
             }
             i += 1;
             if (b != SPACE) & !bad {
                 if len < Port::PLACES {
-                    line[len] = b;
+                    port.line[len] = b;
                     len += 1;
                 } else {
-                    line = [0u8; 80];
+                    port.line = [0u8; 80];
                     len = 0;
                     bad = true;
                 }
             }
         }
-        self.gathered(line, len, bad, from, i)
+        port.gathered(len, bad, from, i)
     }
 }

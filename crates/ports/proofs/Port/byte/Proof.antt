@@ -11,10 +11,10 @@ quiet-requires c κs = search needs
 
 returns : tie.Need-returns
 unfolding heard
-returns c = rw (c .before .if1 .taken, c .quiet .ensures, c .before .before .before .marked .ensures)
+returns c = rw (c .before .before .if1 .taken, c .quiet .ensures, c .before .marked .ensures)
 
-stopped-requires : tie.Need-stopped-requires
-stopped-requires c κs = search needs
+settled-requires : tie.Need-settled-requires
+settled-requires c κs = search needs
 
 kind-of-requires : tie.Need-kind-of-requires
 kind-of-requires c κs = search needs
@@ -24,7 +24,7 @@ by-kind-requires c κs = search needs
 
 returns-2 : tie.Need-returns-2
 unfolding heard
-returns-2 c = rw (c .before .before .before .if1 .left, c .by-kind .ensures, c .before .kind-of .ensures, c .before .before .stopped .ensures, c .before .before .before .before .before .marked .ensures)
+returns-2 c = rw (c .before .before .before .if1 .left, c .by-kind .ensures, c .before .kind-of .ensures, c .before .before .settled .ensures)
 
 pub byte-spec : {M : Type 1} → statement M
 byte-spec =
@@ -33,7 +33,7 @@ byte-spec =
     marked-requires
     quiet-requires
     returns
-    stopped-requires
+    settled-requires
     kind-of-requires
     by-kind-requires
     returns-2)

@@ -9,10 +9,10 @@ use Rattle.ports.proofs.Port.typed.Statement.{statement}
 use Rattle.ports.proofs.Port.typed.Tie as tie
 
 abbrev Inv-loop : tie.InvT-loop
-Inv-loop self input from line₀ len₀ bad₀ i₀ line len bad i = Gathering self input from line len bad i
+Inv-loop input from port₀ len₀ bad₀ i₀ port len bad i = Gathering port₀ input from port len bad i
 
 abbrev μ-loop : tie.MeasureT-loop
-μ-loop self input from line₀ len₀ bad₀ i₀ line len bad i = length input - i
+μ-loop input from port₀ len₀ bad₀ i₀ port len bad i = length input - i
 
 loop-holds : tie.Need-loop-holds Inv-loop μ-loop
 loop-holds c = start _ _ _
@@ -29,14 +29,14 @@ gathered-requires c κs = search needs
 returns : tie.Need-returns Inv-loop μ-loop
 returns c =
     let b = c .before .before in
-    c .gathered .ensures
-    ∙ ended (b .before .before .before .loop .inv) (typing-other _ _ (b .before .before .loop-test .taken) (sym (b .is-typed .ensures) ∙ not-true _ (c .before .if1 .taken)))
+    rw (c .gathered .ensures)
+    (ended (b .before .before .before .loop .inv) (typing-other _ _ (b .before .before .loop-test .taken) (sym (b .is-typed .ensures) ∙ not-true _ (c .before .if1 .taken))))
 
 add-i : tie.Need-add-i Inv-loop μ-loop
 add-i c = search needs
 
-array-write-line : tie.Need-array-write-line Inv-loop μ-loop
-array-write-line c = search needs
+element-write-port : tie.Need-element-write-port Inv-loop μ-loop
+element-write-port c = search needs
 
 add-len : tie.Need-add-len Inv-loop μ-loop
 add-len c = search needs
@@ -55,9 +55,10 @@ loop-less-2 c = search needs
 
 loop-again-2 : tie.Need-loop-again-2 Inv-loop μ-loop
 loop-again-2 c =
-    let b = c .before .before .before in
-    spoils (b .before .before .before .loop .inv) (b .before .before .loop-test .taken) (sym (b .is-typed .ensures) ∙ not-false _ (c .before .before .if1 .left))
-    (c .before .if2 .taken) (c .if3 .left)
+    let d = c .before in
+    let b = d .before .before .before in
+    spoils (b .before .before .before .loop .inv) (b .before .before .loop-test .taken) (sym (b .is-typed .ensures) ∙ not-false _ (d .before .before .if1 .left))
+    (d .before .if2 .taken) (d .if3 .left)
 
 loop-less-3 : tie.Need-loop-less-3 Inv-loop μ-loop
 loop-less-3 c = search needs
@@ -71,7 +72,7 @@ gathered-requires-2 : tie.Need-gathered-requires-2 Inv-loop μ-loop
 gathered-requires-2 c κs = search needs
 
 returns-2 : tie.Need-returns-2 Inv-loop μ-loop
-returns-2 c = c .gathered2 .ensures ∙ ended (c .before .before .loop .inv) (typing-end _ _ (c .before .loop-test .left))
+returns-2 c = rw (c .gathered2 .ensures) (ended (c .before .before .loop .inv) (typing-end _ _ (c .before .loop-test .left)))
 
 pub typed-spec : {M : Type 1} → statement M
 typed-spec =
@@ -85,7 +86,7 @@ typed-spec =
     gathered-requires
     returns
     add-i
-    array-write-line
+    element-write-port
     add-len
     loop-less
     loop-again

@@ -9,6 +9,7 @@ use crate::answers::Outcome;
 use crate::answers::finished;
 use lines::verdict::Verdict;
 use ports::Event;
+use ports::hearing::ENQ;
 use ports::typing::is_typed;
 use text::append;
 
@@ -50,6 +51,14 @@ impl State {
                 let next = typed.port;
                 port = next;
                 taken = typed.at;
+            } else if b == ENQ {
+                let asking = port.settled();
+                let m = asking.enquiry();
+                let error = asking.error;
+                let next = asking.enquired();
+                port = next;
+                taken += 1;
+                written = shared.reply(out, written, m, error);
             } else {
                 let model = shared.model;
                 let heard = port.byte(model, b);

@@ -5,6 +5,7 @@ use native.Mathlib.Omega.{arith}
 use borrow.Author.Needs.{needs}
 use denote.Ref.{now}
 use lib.ListN.{length}
+use Rattle.ports.proofs.Characters.{enq-heard}
 use Rattle.tpg.specs.Answers.{leastOutput}
 use Rattle.tpg.specs.Steps.{eventText}
 use Rattle.tpg.proofs.Runs.{Going, start, silent, answered, typed, farther, ended, same-length as length-kept, taken-full, taken-end}
@@ -63,22 +64,51 @@ loop-again c =
     let d = c .before .before .before .before .before in
     typed (d .before .before .loop .inv) (c .before .typed .result) (c .before .typed .ensures) (d .if1 .left)
 
+settled-requires : tie.Need-settled-requires Inv-loop μ-loop
+settled-requires c κs = search needs
+
+enquiry-requires : tie.Need-enquiry-requires Inv-loop μ-loop
+enquiry-requires c κs = search needs
+
+enquired-requires : tie.Need-enquired-requires Inv-loop μ-loop
+enquired-requires c κs = search needs
+
+add-taken : tie.Need-add-taken Inv-loop μ-loop
+add-taken c = omega (arith, c .before .before .before .before .before .before .before .before .before .before .before .before .before .before .before .good .1 .0 .0)
+
+reply-requires : tie.Need-reply-requires Inv-loop μ-loop
+reply-requires c κs = search needs
+
+loop-less-2 : tie.Need-loop-less-2 Inv-loop μ-loop
+loop-less-2 c = omega (arith, c .before .before .before .before .before .before .before .before .before .before .before .before .before .loop-test .taken)
+
+loop-again-2 : tie.Need-loop-again-2 Inv-loop μ-loop
+unfolding eventText
+loop-again-2 c =
+    let k = c .before .before in
+    let n = k .before .before in
+    let q = n .before .before in
+    let s = q .before in
+    let d = s .before .before .before .before .before in
+    answered (d .before .before .loop .inv) _ (d .before .loop-test .taken) (d .if1 .left)
+    (enq-heard _ _ _ _ _ _ (s .before .if3 .taken) (s .settled .ensures) (q .enquiry .ensures) (n .enquired .ensures)) _ _ _ _ refl refl (k .reply .ensures)
+
 byte-requires : tie.Need-byte-requires Inv-loop μ-loop
 byte-requires c κs = search needs
 
-add-taken : tie.Need-add-taken Inv-loop μ-loop
-add-taken c = omega arith
+add-taken-2 : tie.Need-add-taken-2 Inv-loop μ-loop
+add-taken-2 c = omega arith
 
 enum-told : tie.Need-enum-told Inv-loop μ-loop
 enum-told c = search needs
 
-loop-less-2 : tie.Need-loop-less-2 Inv-loop μ-loop
-loop-less-2 c = omega arith
+loop-less-3 : tie.Need-loop-less-3 Inv-loop μ-loop
+loop-less-3 c = omega arith
 
-loop-again-2 : tie.Need-loop-again-2 Inv-loop μ-loop
-loop-again-2 c =
+loop-again-3 : tie.Need-loop-again-3 Inv-loop μ-loop
+loop-again-3 c =
     let b = c .before .before .before in
-    let d = b .before .before .before .before in
+    let d = b .before .before .before .before .before in
     silent (d .before .before .loop .inv) (b .byte .result) (d .before .loop-test .taken) (d .if1 .left) (b .byte .ensures) (c .enum-told .given .1)
 
 enum-known-event : tie.Need-enum-known-event Inv-loop μ-loop
@@ -90,37 +120,37 @@ line-text-requires c κs = search needs
 heard-requires : tie.Need-heard-requires Inv-loop μ-loop
 heard-requires c κs = search needs
 
-loop-less-3 : tie.Need-loop-less-3 Inv-loop μ-loop
-loop-less-3 c = omega (arith, c .before .before .before .before .before .before .before .before .before .before .before .before .before .before .loop-test .taken)
+loop-less-4 : tie.Need-loop-less-4 Inv-loop μ-loop
+loop-less-4 c = omega (arith, c .before .before .before .before .before .before .before .before .before .before .before .before .before .before .before .loop-test .taken)
 
-loop-again-3 : tie.Need-loop-again-3 Inv-loop μ-loop
+loop-again-4 : tie.Need-loop-again-4 Inv-loop μ-loop
 unfolding eventText
-loop-again-3 c =
+loop-again-4 c =
     let k = c .before .before .before in
     let v = k .before .before .before in
     let b = v .before .before .before in
-    let d = b .before .before .before .before in
+    let d = b .before .before .before .before .before in
     answered (d .before .before .loop .inv) (b .byte .result) (d .before .loop-test .taken) (d .if1 .left) (b .byte .ensures) _ _ _ _
     (v .event .given .1) (c .heard .ensures) (k .line-text .ensures)
 
 enum-known-event-2 : tie.Need-enum-known-event-2 Inv-loop μ-loop
 enum-known-event-2 c = search needs
 
-reply-requires : tie.Need-reply-requires Inv-loop μ-loop
-reply-requires c κs = search needs
+reply-requires-2 : tie.Need-reply-requires-2 Inv-loop μ-loop
+reply-requires-2 c κs = search needs
 
-loop-less-4 : tie.Need-loop-less-4 Inv-loop μ-loop
-loop-less-4 c = omega (arith, c .before .before .before .before .before .before .before .before .before .before .before .before .before .loop-test .taken)
+loop-less-5 : tie.Need-loop-less-5 Inv-loop μ-loop
+loop-less-5 c = omega (arith, c .before .before .before .before .before .before .before .before .before .before .before .before .before .before .loop-test .taken)
 
-loop-again-4 : tie.Need-loop-again-4 Inv-loop μ-loop
+loop-again-5 : tie.Need-loop-again-5 Inv-loop μ-loop
 unfolding eventText
-loop-again-4 c =
+loop-again-5 c =
     let k = c .before .before in
     let v = k .before .before .before in
     let b = v .before .before .before in
-    let d = b .before .before .before .before in
+    let d = b .before .before .before .before .before in
     answered (d .before .before .loop .inv) (b .byte .result) (d .before .loop-test .taken) (d .if1 .left) (b .byte .ensures) _ _ _ _
-    (v .event2 .given .1) refl (k .reply .ensures)
+    (v .event2 .given .1) refl (k .reply2 .ensures)
 
 finished-requires-2 : tie.Need-finished-requires-2 Inv-loop μ-loop
 finished-requires-2 c κs = search needs
@@ -150,20 +180,27 @@ run-spec =
     typed-requires
     loop-less
     loop-again
-    byte-requires
+    settled-requires
+    enquiry-requires
+    enquired-requires
     add-taken
-    enum-told
+    reply-requires
     loop-less-2
     loop-again-2
+    byte-requires
+    add-taken-2
+    enum-told
+    loop-less-3
+    loop-again-3
     enum-known-event
     line-text-requires
     heard-requires
-    loop-less-3
-    loop-again-3
-    enum-known-event-2
-    reply-requires
     loop-less-4
     loop-again-4
+    enum-known-event-2
+    reply-requires-2
+    loop-less-5
+    loop-again-5
     finished-requires-2
     same-length-2
     returns-2)

@@ -128,6 +128,7 @@ impl Value {
         self.multiplied(ratio)
     }
 
+    // The same by any ratio, through the product.
     fn multiplied(self, ratio: Ratio) -> Value
         ensures { λ r. ⌜ r ≡ scaledBy self ratio ⌝ }
     {

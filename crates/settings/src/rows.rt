@@ -1,8 +1,8 @@
 // The settings as rows of three cells, one row for each line of the sheet; storing what a line writes.
 ghost use mathlib.Core.Path.{_≡_};
 ghost use mathlib.Core.Bool.{cond};
-ghost use lib.ListN.{getD, set};
-ghost use Rattle.settings.specs.Rows.{plain, pairRow, switchRow, row, switchingOf, withRow, mixed, stored};
+ghost use lib.ListN.{getD};
+ghost use Rattle.settings.specs.Rows.{plain, pairRow, switchRow, row, withRow, mixed, stored};
 use crate::Settings;
 use crate::Switching;
 use crate::mnemonic::Mnemonic;
@@ -62,39 +62,6 @@ fn stored_at(stored: [u32; 9], k: u8) -> u32
     if i < 9 { stored[i] } else { 0 }
 }
 
-// The switching function k replaced; no other moves.
-fn switch_put(switching: [Switching; 4], k: u8, r: Row) -> [Switching; 4]
-    ensures { λ x. ⌜ x ≡ set switching k (switchingOf r) ⌝ }
-{
-    let i = k as usize;
-    let a = r.first;
-    let lower = r.second;
-    let upper = r.third;
-    let mut after = switching;
-    if i < 4 {
-        after[i] = Switching {
-            assignment: a.mantissa,
-            lower,
-            upper,
-        };
-        return after;
-    }
-    after
-}
-
-// The factor of channel k replaced.
-fn factor_put(factors: [u32; 2], k: u8, n: u32) -> [u32; 2]
-    ensures { λ r. ⌜ r ≡ set factors k n ⌝ }
-{
-    let i = k as usize;
-    let mut after = factors;
-    if i < 2 {
-        after[i] = n;
-        return after;
-    }
-    after
-}
-
 fn either(on: bool, a: Threshold, b: Threshold) -> Threshold
     ensures { λ r. ⌜ r ≡ cond on a b ⌝ }
 {
@@ -139,61 +106,62 @@ impl Settings {
     {
         let a = r.first;
         let b = r.second;
+        let c = r.third;
         let mut s = self;
         match x {
             Setting::Uni => {
                 s.unit = a.mantissa;
-                s
             }
             Setting::Fil => {
                 s.filters = [a.mantissa, b.mantissa];
-                s
             }
             Setting::Cal => {
                 s.factors = [a.mantissa, b.mantissa];
-                s
             }
             Setting::Dcd => {
                 s.resolutions = [a.mantissa, b.mantissa];
-                s
             }
             Setting::Sp(k) => {
-                let before = s.switching;
-                let after = switch_put(before, k, r);
-                s.switching = after;
-                s
+                let i = k as usize;
+                if i < 4 {
+                    s.switching[i] = Switching {
+                        assignment: a.mantissa,
+                        lower: b,
+                        upper: c,
+                    };
+                }
             }
             Setting::Stored(k) => {
                 let i = k as usize;
                 if i < 9 {
                     s.stored[i] = a.mantissa;
-                    return s;
                 }
-                s
             }
         }
+        s
     }
 
     // The settings after an accepted line has written the cells r.
     pub fn store(self, model: Model, m: Mnemonic, r: Row) -> Settings
         ensures { λ s. ⌜ s ≡ stored model self m r ⌝ }
     {
+        let mut s = self;
         match m {
             Mnemonic::Setting(x) => {
                 let ks = model.shape(m);
-                self.with_row(x, mixed(ks.count, r, self.row(x)))
+                s = s.with_row(x, mixed(ks.count, r, s.row(x)));
             }
             Mnemonic::Cf(k) => {
                 let a = r.first;
-                let before = self.factors;
-                let after = factor_put(before, k, a.mantissa);
-                let mut s = self;
-                s.factors = after;
-                s
+                let i = k as usize;
+                if i < 2 {
+                    s.factors[i] = a.mantissa;
+                }
             }
-            Mnemonic::Query(_) => self,
-            Mnemonic::Com => self,
-            Mnemonic::Sav => self,
+            Mnemonic::Query(_) => {}
+            Mnemonic::Com => {}
+            Mnemonic::Sav => {}
         }
+        s
     }
 }

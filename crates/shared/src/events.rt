@@ -101,18 +101,21 @@ impl Shared {
     {
         let model = self.model;
         let a = r.first;
+        let mut saved = self.saved;
         match m {
-            Mnemonic::Setting(_) => self.saved,
-            Mnemonic::Cf(_) => self.saved,
-            Mnemonic::Query(_) => self.saved,
-            Mnemonic::Com => self.saved,
+            Mnemonic::Setting(_) => {}
+            Mnemonic::Cf(_) => {}
+            Mnemonic::Query(_) => {}
+            Mnemonic::Com => {}
             Mnemonic::Sav => {
+                let settings = self.settings;
+                saved = settings;
                 if a.mantissa == 0 {
-                    return model.defaults();
+                    saved = model.defaults();
                 }
-                self.settings
             }
         }
+        saved
     }
 
     // The switches after an accepted line.
@@ -143,13 +146,11 @@ impl Shared {
     {
         let model = self.model;
         let before = self.settings;
-        let settings = before.store(model, m, r);
-        let saved = self.saved_by(m, r);
         let switches = self.switches_by(m, r);
         let mut s = self;
-        s.settings = settings;
-        s.saved = saved;
+        s.saved = self.saved_by(m, r);
         s.switches = switches;
+        s.settings = before.store(model, m, r);
         s
     }
 

@@ -104,6 +104,7 @@ fn write_identity(out: &mut [u8], at: usize, model: Model, serial: u32) -> usize
 }
 
 impl Shared {
+    // What a query is answered with; ERR with the error word handed in.
     fn write_query(self, out: &mut [u8], at: usize, q: Query, error: Word) -> usize
         ensures { λ r. ⌜ page (now (out .exit)) r ≡ puts (page (now (out .entry)) at) (queryText self error q) ⌝ }
     {
@@ -122,6 +123,7 @@ impl Shared {
         }
     }
 
+    // Its reply, with the end of the line.
     fn query_reply(self, out: &mut [u8], at: usize, q: Query, error: Word) -> usize
         ensures { λ r. ⌜ page (now (out .exit)) r ≡ puts (page (now (out .entry)) at) (queryText self error q ++ lineEnd) ⌝ }
     {

@@ -78,13 +78,13 @@ impl State {
         self.with_answer(Answer::BrokenState)
     }
 
-    // The ticks of a box that has room for a line of the stream at each; no tick changes the line.
+    // The ticks of a box that has room for a line of the stream at each (`stream-length`); no tick changes the line.
     fn advance(self, count: u8, out: &mut [u8]) -> Outcome
         requires { ⌜ leastOutput * count ≤ length (now out) ⌝ }
         ensures { λ r. ⌜ (r ≡ allCounted self count) × (now (out .exit) ≡ over (ticksText self count) (now (out .entry))) ⌝ }
     {
         let shared = self.shared;
-        let mut line = [0u8; 64];
+        let mut line = [0u8; State::LEAST_OUTPUT];
         let n = shared.stream_line(&mut line, 0);
         let mut port = self.port;
         let mut written: usize = 0;

@@ -23,7 +23,7 @@ defaults-requires : tie.Need-defaults-requires
 defaults-requires c κs = search needs
 
 returns : tie.Need-returns
-returns c = rw (c .defaults .ensures, c .before .before .before .enum-told5 .given .1, eq-eqb _ _ (c .before .if1 .taken))
+returns c = search needs
 
 returns-2 : tie.Need-returns-2
 returns-2 c = search needs
@@ -35,10 +35,10 @@ returns-4 : tie.Need-returns-4
 returns-4 c = search needs
 
 returns-5 : tie.Need-returns-5
-returns-5 c = search needs
+returns-5 c = rw (c .defaults .ensures, c .before .before .before .before .enum-told5 .given .1, eq-eqb _ _ (c .before .if1 .taken))
 
 returns-6 : tie.Need-returns-6
-returns-6 c = rw (c .before .before .before .enum-told5 .given .1, ne-eqb _ _ (c .before .if1 .left))
+returns-6 c = rw (c .before .before .before .enum-told5 .given .1, ne-eqb _ _ (c .if1 .left))
 
 pub saved-by-spec : {M : Type 1} → statement M
 saved-by-spec =

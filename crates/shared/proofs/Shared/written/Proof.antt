@@ -4,18 +4,18 @@ use borrow.Author.Needs.{needs}
 use Rattle.shared.proofs.Shared.written.Statement.{statement}
 use Rattle.shared.proofs.Shared.written.Tie as tie
 
-store-requires : tie.Need-store-requires
-store-requires c κs = search needs
+switches-by-requires : tie.Need-switches-by-requires
+switches-by-requires c κs = search needs
 
 saved-by-requires : tie.Need-saved-by-requires
 saved-by-requires c κs = search needs
 
-switches-by-requires : tie.Need-switches-by-requires
-switches-by-requires c κs = search needs
+store-requires : tie.Need-store-requires
+store-requires c κs = search needs
 
 returns : tie.Need-returns
 unfolding written
-returns c = rw (c .switches-by .ensures, c .before .saved-by .ensures, c .before .before .store .ensures)
+returns c = rw (c .store .ensures, c .before .saved-by .ensures, c .before .before .switches-by .ensures)
 
 pub written-spec : {M : Type 1} → statement M
-written-spec = tie.close (tie.spec store-requires saved-by-requires switches-by-requires returns)
+written-spec = tie.close (tie.spec switches-by-requires saved-by-requires store-requires returns)

@@ -10,16 +10,17 @@ use lib.Dec.{eqb, leb, ltb}
 use Rattle.numbers.proofs.Cases.{cond-cases}
 use Rattle.settings.specs.Lists.{every}
 use Rattle.settings.specs.declared.model.Model.{Model}
+use Rattle.settings.specs.declared.mnemonic.Mnemonic.{Mnemonic}
 use Rattle.settings.specs.declared.mnemonic.Mnemonic.the-variants.{Com}
 use Rattle.settings.specs.declared.rows.Row.{Row}
 use Rattle.lines.specs.Judging.{judged}
 use Rattle.lines.specs.declared.verdict.Verdict.the-variants.{Writes}
-use Rattle.ports.specs.Line.{spoilt, grown, held}
+use Rattle.ports.specs.Line.{spoilt, grown, held, isEmpty}
 use Rattle.ports.specs.Stream.{withStream, ticked}
-use Rattle.ports.specs.Hearing.{kindOf, freshPort, concluded, settled, quiet, byKind, heard, isTyped, typedOne, typedAll}
+use Rattle.ports.specs.Hearing.{kindOf, freshPort, concluded, worded, replied, asked, settled, quiet, byKind, heard, isTyped, typedOne, typedAll}
 use Rattle.ports.specs.Limits.{inRange, lineWithin, isInterval, portWithin}
 use Rattle.ports.specs.declared.Port.{Port}
-use Rattle.ports.specs.declared.Selection.the-variants.{Nothing}
+use Rattle.ports.specs.declared.Selection.the-variants.{Nothing, Of as Chosen}
 
 -- ---- a fresh port
 
@@ -43,6 +44,16 @@ del-spoils model p = rw (and-false (p .ended))
 pub com-unselected : (model : Model) (p : Port) (r : Row) → judged model (held p) ≡ Writes Com r → heard model p 13 .port .selection ≡ Nothing
 unfolding heard kindOf byKind concluded
 com-unselected model p r e = rw (and-false (p .ended), e)
+
+-- an ENQ on an empty line is answered by the selection, which stays
+pub selection-answers : (p : Port) (m : Mnemonic) → isEmpty p ≡ true → p .selection ≡ Chosen m → asked p ≡ replied p m
+unfolding asked
+selection-answers p m e s = rw (e, s)
+
+-- on any other line the error word answers
+pub word-answers : (p : Port) → isEmpty p ≡ false → asked p ≡ worded p
+unfolding asked
+word-answers p e = rw e
 
 pub bad-stays : (p : Port) (b : ℕ) → p .bad ≡ true → grown p b ≡ p
 unfolding grown

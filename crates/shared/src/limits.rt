@@ -31,15 +31,18 @@ impl Shared {
         ensures { λ r. ⌜ r ≡ sharedWithin self ⌝ }
     {
         let model = self.model;
-        let settings = self.settings;
+        // one set after the other in one place: the stack holds a single copy
+        let mut set = self.settings;
+        let w = set.switching;
+        let present = set.is_within(model);
         let saved = self.saved;
+        set = saved;
+        let kept = set.is_within(model);
         let readings = self.readings;
-        let w = settings.switching;
         let on = self.switches;
-        let set = settings.is_within(model) & saved.is_within(model);
         let first = reading_is_within(model, 0, readings[0]);
         let second = reading_is_within(model, 1, readings[1]);
         let switched = switches_are_within(model, w, on);
-        (self.serial <= Shared::MOST_SERIAL) & (set & ((first & second) & switched))
+        (self.serial <= Shared::MOST_SERIAL) & ((present & kept) & ((first & second) & switched))
     }
 }

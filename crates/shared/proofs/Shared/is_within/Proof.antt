@@ -39,7 +39,8 @@ returns c =
     let n : length (a .self .readings) ≡ 2 = sym (length-map (a .self .readings) _) ∙ s .good .0 .1 .1 .1 .1 .1 .1 .0 .1 .0 .1 in
     let first = b .reading-is-within .ensures ∙ ap (readingWithin (a .self .model) 0) (entry (a .self .readings) _ noReading 0 (omega arith)) in
     let second = c .before .before .reading-is-within2 .ensures ∙ ap (readingWithin (a .self .model) 1) (entry (a .self .readings) _ noReading 1 (omega arith)) in
-    rw (c .before .switches-are-within .ensures, second, first, b .before .before .is-within2 .ensures, b .before .before .before .is-within .ensures)
+    let sets = b .before .before .before .before in
+    rw (c .before .switches-are-within .ensures, second, first, sets .is-within2 .ensures, sets .before .before .is-within .ensures)
 
 pub is-within-spec : {M : Type 1} → statement M
 is-within-spec =

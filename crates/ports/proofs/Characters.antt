@@ -11,11 +11,14 @@ use lib.ListN.{length, getD, set, drop, drop-of-length-le}
 use lib.Seq.{drop-cons}
 use lib.Dec.{eqb, ltb}
 use Rattle.numbers.proofs.Cases.{never, and-true, ranged}
+use Rattle.settings.specs.Mnemonics.{isErr}
 use Rattle.settings.specs.declared.model.Model.{Model}
 use Rattle.settings.specs.declared.mnemonic.Mnemonic.{Mnemonic}
-use Rattle.ports.specs.Line.{blank, withLine, grown}
-use Rattle.ports.specs.Hearing.{kindOf, asked, settled, quiet, byKind, heard, isTyped, typing, typedOne, typedAll}
+use Rattle.ports.specs.Line.{blank, withLine, grown, isEmpty}
+use Rattle.ports.specs.Hearing.{kindOf, answered, asked, again, repeats, settled, quiet, byKind, heard, isTyped, typing, typedOne, typedAll}
 use Rattle.ports.specs.declared.Port.{Port}
+use Rattle.ports.specs.declared.Selection.{Selection}
+use Rattle.ports.specs.declared.Selection.the-variants.{Nothing, Of as Chosen}
 use Rattle.ports.specs.declared.Event.the-variants.{Reply}
 use Rattle.ports.specs.declared.typing.Typed.{Typed}
 use Rattle.ports.specs.declared.hearing.ByteKind.the-variants.{Dropped, Character, Spoiling}
@@ -77,6 +80,15 @@ pub enq-heard : (model : Model) (p q next : Port) (m : Mnemonic) (b : ℕ) → b
     → record { port = next; event = Reply m (q .error) } ≡ heard model p b
 unfolding heard kindOf byKind
 enq-heard model p q next m b enq settles event port = rw (enq, and-false (p .ended), ← settles) (λ i. record { port = port i; event = event i })
+
+answered-stays : (p : Port) (s : Selection) → again s ≡ true → p ≡ answered p s .port
+answered-stays p Nothing e = never (cc)
+answered-stays p (Chosen m) e = rw (not-true (isErr m) e)
+
+-- where the selection answers again, the port is as it was
+pub repeats-stays : (p : Port) → repeats p ≡ true → p ≡ asked p .port
+unfolding asked
+repeats-stays p e = let t = and-true (isEmpty p) (again (p .selection)) e in rw (t .0) (answered-stays p (p .selection) (t .1))
 
 -- ---- the run
 

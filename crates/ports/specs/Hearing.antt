@@ -1,7 +1,7 @@
 -- One byte of the host (01, "Bytes from the host").
 use Prim.Native.Nat.{ℕ}
 use mathlib.Core.List.{List, [], _∷_}
-use mathlib.Core.Bool.{Bool, true, false, cond, _&&_, _||_}
+use mathlib.Core.Bool.{Bool, true, false, cond, not, _&&_, _||_}
 use lib.Dec.{eqb, leb, ltb}
 use Rattle.settings.specs.Models.{powerOnMode}
 use Rattle.settings.specs.Mnemonics.{isErr}
@@ -119,6 +119,15 @@ answered p (Chosen m) = replied p m
 -- "ENQ on an empty line"; "With no selection, or on a line that is not empty (bad ones too)"
 unfoldable pub asked : Port → Heard
 asked p = cond (isEmpty p) (answered p (p .selection)) (worded p)
+
+-- whether a selection answers "as often as asked" with nothing changed: any but ERR, whose word is gone once it is sent
+abbrev pub again : Selection → Bool
+again Nothing = false
+again (Chosen m) = not (isErr m)
+
+-- so on "an empty line"
+abbrev pub repeats : Port → Bool
+repeats p = isEmpty p && again (p .selection)
 
 -- nothing is sent
 abbrev pub quiet : Port → Heard

@@ -1,6 +1,6 @@
 // One byte of the host: what it does to the port, and what it makes the box do.
 ghost use mathlib.Core.Path.{_≡_};
-ghost use Rattle.ports.specs.Hearing.{kindOf, freshPort, withMark, withChoice, selected, accepted, refused, concluded, lineEnd, dropped, replied, asked, quiet, settled, byKind, heard};
+ghost use Rattle.ports.specs.Hearing.{kindOf, freshPort, withMark, withChoice, selected, accepted, refused, concluded, lineEnd, dropped, replied, asked, repeats, quiet, settled, byKind, heard};
 ghost use Rattle.ports.specs.declared.Event.the-variants.{Reply};
 use crate::Event;
 use crate::Heard;
@@ -193,6 +193,17 @@ impl Port {
             }
         } else {
             self.dropped(Word::none())
+        }
+    }
+
+    // Whether it is then as it was.
+    pub fn repeats(self) -> bool
+        ensures { λ r. ⌜ r ≡ repeats self ⌝ }
+    {
+        let selection = self.selection;
+        match selection {
+            Selection::Nothing => false,
+            Selection::Of(m) => self.is_empty() & !m.is_err(),
         }
     }
 

@@ -56,8 +56,12 @@ impl State {
                 let asking = port.settled();
                 let m = asking.enquiry();
                 let error = asking.error;
-                let next = asking.enquired();
-                port = next;
+                if asking.repeats() {
+                    port = asking;
+                } else {
+                    let next = asking.enquired();
+                    port = next;
+                }
                 taken += 1;
                 written = shared.reply(out, written, m, error);
             } else {

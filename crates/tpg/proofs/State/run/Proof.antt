@@ -1,11 +1,13 @@
 -- What is left to take from here is what was left at the start, less what was taken.
-use mathlib.Core.Path.{refl, sym, _∙_}
+use mathlib.Core.Path.{_≡_, refl, sym, _∙_}
+use mathlib.Core.Logic.{⊎-elim}
 use Prim.Native.Nat.{_-_, _<_}
 use native.Mathlib.Omega.{arith}
 use borrow.Author.Needs.{needs}
 use denote.Ref.{now}
 use lib.ListN.{length}
-use Rattle.ports.proofs.Characters.{enq-heard}
+use Rattle.ports.specs.Hearing.{asked}
+use Rattle.ports.proofs.Characters.{enq-heard, repeats-stays}
 use Rattle.tpg.specs.Answers.{leastOutput}
 use Rattle.tpg.specs.Steps.{eventText}
 use Rattle.tpg.proofs.Runs.{Going, start, silent, answered, typed, farther, ended, same-length as length-kept, taken-full, taken-end}
@@ -70,28 +72,33 @@ settled-requires c κs = search needs
 enquiry-requires : tie.Need-enquiry-requires Inv-loop μ-loop
 enquiry-requires c κs = search needs
 
+repeats-requires : tie.Need-repeats-requires Inv-loop μ-loop
+repeats-requires c κs = search needs
+
 enquired-requires : tie.Need-enquired-requires Inv-loop μ-loop
 enquired-requires c κs = search needs
 
 add-taken : tie.Need-add-taken Inv-loop μ-loop
-add-taken c = omega (arith, c .before .before .before .before .before .before .before .before .before .before .before .before .before .before .before .good .1 .0 .0)
+add-taken c = omega (arith, c .before .before .before .before .before .before .before .before .before .before .before .before .before .before .before .before .good .1 .0 .0)
 
 reply-requires : tie.Need-reply-requires Inv-loop μ-loop
 reply-requires c κs = search needs
 
 loop-less-2 : tie.Need-loop-less-2 Inv-loop μ-loop
-loop-less-2 c = omega (arith, c .before .before .before .before .before .before .before .before .before .before .before .before .before .loop-test .taken)
+loop-less-2 c = omega (arith, c .before .before .before .before .before .before .before .before .before .before .before .before .before .before .loop-test .taken)
 
 loop-again-2 : tie.Need-loop-again-2 Inv-loop μ-loop
 unfolding eventText
 loop-again-2 c =
     let k = c .before .before in
     let n = k .before .before in
-    let q = n .before .before in
+    let q = n .before .before .before in
     let s = q .before in
     let d = s .before .before .before .before .before in
+    let port : n .if4 .port ≡ asked (s .settled .result) .port =
+    ⊎-elim (λ w. w .1 ∙ repeats-stays (s .settled .result) (sym (n .before .repeats .ensures) ∙ w .0 .taken)) (λ w. w .2 ∙ w .1 .ensures) (n .if4 .came) in
     answered (d .before .before .loop .inv) _ (d .before .loop-test .taken) (d .if1 .left)
-    (enq-heard _ _ _ _ _ _ (s .before .if3 .taken) (s .settled .ensures) (q .enquiry .ensures) (n .enquired .ensures)) _ _ _ _ refl refl (k .reply .ensures)
+    (enq-heard _ _ _ _ _ _ (s .before .if3 .taken) (s .settled .ensures) (q .enquiry .ensures) port) _ _ _ _ refl refl (k .reply .ensures)
 
 byte-requires : tie.Need-byte-requires Inv-loop μ-loop
 byte-requires c κs = search needs
@@ -182,6 +189,7 @@ run-spec =
     loop-again
     settled-requires
     enquiry-requires
+    repeats-requires
     enquired-requires
     add-taken
     reply-requires

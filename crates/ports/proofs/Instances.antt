@@ -10,14 +10,15 @@ use lib.Dec.{eqb, leb, ltb}
 use Rattle.numbers.proofs.Cases.{cond-cases}
 use Rattle.settings.specs.Lists.{every}
 use Rattle.settings.specs.declared.model.Model.{Model}
+use Rattle.settings.specs.declared.mnemonic.Query.the-variants.{Sps, Err}
 use Rattle.settings.specs.declared.mnemonic.Mnemonic.{Mnemonic}
-use Rattle.settings.specs.declared.mnemonic.Mnemonic.the-variants.{Com}
+use Rattle.settings.specs.declared.mnemonic.Mnemonic.the-variants.{Query as Asked, Com}
 use Rattle.settings.specs.declared.rows.Row.{Row}
 use Rattle.lines.specs.Judging.{judged}
 use Rattle.lines.specs.declared.verdict.Verdict.the-variants.{Writes}
 use Rattle.ports.specs.Line.{spoilt, grown, held, isEmpty}
 use Rattle.ports.specs.Stream.{withStream, ticked}
-use Rattle.ports.specs.Hearing.{kindOf, freshPort, concluded, worded, replied, asked, settled, quiet, byKind, heard, isTyped, typedOne, typedAll}
+use Rattle.ports.specs.Hearing.{kindOf, freshPort, concluded, worded, replied, asked, again, settled, quiet, byKind, heard, isTyped, typedOne, typedAll}
 use Rattle.ports.specs.Limits.{inRange, lineWithin, isInterval, portWithin}
 use Rattle.ports.specs.declared.Port.{Port}
 use Rattle.ports.specs.declared.Selection.the-variants.{Nothing, Of as Chosen}
@@ -54,6 +55,10 @@ selection-answers p m e s = rw (e, s)
 pub word-answers : (p : Port) → isEmpty p ≡ false → asked p ≡ worded p
 unfolding asked
 word-answers p e = rw e
+
+-- nothing selected, SPS, and ERR, whose word is gone once it is sent
+pub selection-repeats : map again (Nothing ∷ Chosen (Asked Sps) ∷ Chosen (Asked Err) ∷ []) ≡ false ∷ true ∷ false ∷ []
+selection-repeats = refl
 
 pub bad-stays : (p : Port) (b : ℕ) → p .bad ≡ true → grown p b ≡ p
 unfolding grown

@@ -56,6 +56,7 @@ impl State {
                 let asking = port.settled();
                 let m = asking.enquiry();
                 let error = asking.error;
+                // a host polls by ENQs: a port that is then as it was is not copied
                 if asking.repeats() {
                     port = asking;
                 } else {

@@ -87,13 +87,13 @@ same-length-2 c = search needs
 returns-2 : tie.Need-returns-2
 returns-2 c =
     let k = c .before .before in
-    let a = c .before .before .before .before .before .before .before .before .before .before .before .before .before .before .before .before .before .before .args in
-    let v = valueText (a .s .value) in
-    let p = page (a .out .now) (a .at) in
-    let w = c .before .before .before .before .before .before .before .before .before .before .before .whole in
-    let q = page (w .last .0) (w .result) in
-    then p (wholeText (a .s .status)) (44 ∷ v) (w .ensures)
-    (k .append2 .ensures ∙ ap (λ r. puts r (c .before .before .before .before .before .before .before .before .before .before .before .before .before .before .before .before .value-bytes .result)) (c .before .before .before .before .before .before .before .put .ensures) ∙ ap (λ b. puts q (44 ∷ b)) (c .before .before .before .before .before .before .before .before .before .before .before .before .before .before .before .before .value-bytes .ensures))
+    let u = k .before .before .before .before .before in
+    let w = u .before .before .before .before in
+    let b = w .before .before .before .before .before in
+    let a = b .before .before .args in
+    let q = page (w .whole .last .0) (w .whole .result) in
+    let value = k .append2 .ensures ∙ ap (λ r. puts r (b .value-bytes .result)) (u .put .ensures) ∙ ap (λ l. puts q (44 ∷ l)) (b .value-bytes .ensures) in
+    then (page (a .out .now) (a .at)) (wholeText (a .s .status)) (44 ∷ valueText (a .s .value)) (w .whole .ensures) value
 
 pub write-shown-spec : {M : Type 1} → statement M
 write-shown-spec =

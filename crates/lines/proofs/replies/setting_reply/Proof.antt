@@ -17,8 +17,10 @@ same-length c = search needs
 
 returns : tie.Need-returns
 returns c =
-    let a = c .before .before .before .before .before .before .before .before .before .args in
-    then (page (a .out .now) (a .at)) (settingText (a .model) (a .s) (a .x)) lineEnd (c .before .before .before .before .before .before .write-setting .ensures) (c .before .before .end-line .ensures)
+    let k = c .before .before in
+    let w = k .before .before .before .before in
+    let a = w .before .before .before .args in
+    then (page (a .out .now) (a .at)) (settingText (a .model) (a .s) (a .x)) lineEnd (w .write-setting .ensures) (k .end-line .ensures)
 
 pub setting-reply-spec : {M : Type 1} → statement M
 setting-reply-spec =

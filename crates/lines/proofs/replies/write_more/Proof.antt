@@ -17,8 +17,10 @@ same-length c = search needs
 
 returns : tie.Need-returns
 returns c =
-    let a = c .before .before .before .before .before .before .before .before .before .before .args in
-    rw (c .before .before .before .before .before .before .before .before .if1 .taken) (c .before .before .write-cell .ensures ∙ ap (λ (p : Page). puts p (write (a .kind) (a .cell))) (c .before .before .before .before .before .before .put .ensures))
+    let k = c .before .before in
+    let u = k .before .before .before .before in
+    let a = u .before .before .before .before .args in
+    rw (u .before .before .if1 .taken) (k .write-cell .ensures ∙ ap (λ (p : Page). puts p (write (a .kind) (a .cell))) (u .put .ensures))
 
 returns-2 : tie.Need-returns-2
 returns-2 c = rw (c .if1 .left)

@@ -36,14 +36,18 @@ same-length c = search needs
 
 returns-2 : tie.Need-returns-2
 returns-2 c =
-    let r = c .before .before .before .before .before .before .before .before .before .before .before .before .before .row in
-    let k = c .before .before .before .before .before .before .before .before .before .before .before .before .before .before .shape in
-    let a = c .before .before .before .before .before .before .before .before .before .before .before .before .before .before .before .before .args in
+    let third = c .before .before in
+    let second = third .before .before .before .before in
+    let first = second .before .before .before .before in
+    let i = first .before .before in
+    let r = i .before .row in
+    let k = i .before .before .shape in
+    let a = i .before .before .before .before .args in
     let x = k .result in
     let y = r .result in
-    let two = c .before .before .before .before .before .before .write-more .ensures ∙ ap (λ (p : Page). puts p (more (ltb 1 (x .count)) (x .second) (y .second))) (c .before .before .before .before .before .before .before .before .before .before .write-cell .ensures) in
-    c .before .before .write-more2 .ensures ∙ ap (λ (p : Page). puts p (more (ltb 2 (x .count)) (x .third) (y .third))) two
-    ∙ setting-written (a .model) (a .s) (a .x) x y (k .ensures) (r .ensures) (c .before .before .before .before .before .before .before .before .before .before .before .before .if1 .left) (page (a .out .now) (a .at))
+    let two = second .write-more .ensures ∙ ap (λ (p : Page). puts p (more (ltb 1 (x .count)) (x .second) (y .second))) (first .write-cell .ensures) in
+    third .write-more2 .ensures ∙ ap (λ (p : Page). puts p (more (ltb 2 (x .count)) (x .third) (y .third))) two
+    ∙ setting-written (a .model) (a .s) (a .x) x y (k .ensures) (r .ensures) (i .if1 .left) (page (a .out .now) (a .at))
 
 pub write-setting-spec : {M : Type 1} → statement M
 write-setting-spec =

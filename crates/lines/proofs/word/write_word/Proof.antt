@@ -24,7 +24,9 @@ same-length c = search needs
 
 returns : tie.Need-returns
 returns c =
-    c .before .before .append .ensures ∙ rw (c .before .before .before .before .before .digit-of3 .ensures, c .before .before .before .before .before .before .digit-of2 .ensures, c .before .before .before .before .before .before .before .digit-of .ensures)
+    let k = c .before .before in
+    let d = k .before .before .before in
+    k .append .ensures ∙ rw (d .digit-of3 .ensures, d .before .digit-of2 .ensures, d .before .before .digit-of .ensures)
 
 pub write-word-spec : {M : Type 1} → statement M
 write-word-spec =

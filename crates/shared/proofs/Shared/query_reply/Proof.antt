@@ -18,8 +18,10 @@ same-length c = search needs
 
 returns : tie.Need-returns
 returns c =
-    let a = c .before .before .before .before .before .before .before .before .before .args in
-    then (page (a .out .now) (a .at)) (queryText (a .self) (a .error) (a .q)) lineEnd (c .before .before .before .before .before .before .write-query .ensures) (c .before .before .end-line .ensures)
+    let k = c .before .before in
+    let w = k .before .before .before .before in
+    let a = w .before .before .before .args in
+    then (page (a .out .now) (a .at)) (queryText (a .self) (a .error) (a .q)) lineEnd (w .write-query .ensures) (k .end-line .ensures)
 
 pub query-reply-spec : {M : Type 1} → statement M
 query-reply-spec = tie.close (tie.spec write-query-requires end-line-requires same-length returns)

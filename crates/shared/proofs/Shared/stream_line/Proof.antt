@@ -19,8 +19,11 @@ same-length c = search needs
 returns : tie.Need-returns
 unfolding streamText
 returns c =
-    let a = c .before .before .before .before .before .before .before .before .before .before .args in
-    then (page (a .out .now) (a .at)) (perChannel (a .self .model) (shownAt (a .self .settings .unit) (a .self .readings))) lineEnd (c .before .before .before .before .before .before .write-readings .ensures) (c .before .before .end-line .ensures)
+    let k = c .before .before in
+    let w = k .before .before .before .before in
+    let a = w .before .before .before .before .args in
+    let text = perChannel (a .self .model) (shownAt (a .self .settings .unit) (a .self .readings)) in
+    then (page (a .out .now) (a .at)) text lineEnd (w .write-readings .ensures) (k .end-line .ensures)
 
 pub stream-line-spec : {M : Type 1} → statement M
 stream-line-spec =

@@ -27,10 +27,14 @@ same-length c = search needs
 
 returns : tie.Need-returns
 returns c =
-    let a = c .before .before .before .before .before .before .before .before .before .before .before .before .before .before .before .before .before .before .args in
-    let comma = c .before .before .before .before .before .before .before .before .before .before .before .put .ensures ∙ ap (λ (p : Page). put p 44) (c .before .before .before .before .before .before .before .before .before .before .before .before .before .before .before .write-names .ensures) in
-    let number = c .before .before .before .before .before .before .before .padded .ensures ∙ ap (λ (p : Page). puts p (paddedText (a .serial) 8)) comma in
-    c .before .before .append .ensures ∙ rw (number, puts-append)
+    let k = c .before .before in
+    let n = k .before .before .before .before .before in
+    let u = n .before .before .before .before in
+    let w = u .before .before .before .before in
+    let a = w .before .before .before .args in
+    let comma = u .put .ensures ∙ ap (λ (p : Page). put p 44) (w .write-names .ensures) in
+    let number = n .padded .ensures ∙ ap (λ (p : Page). puts p (paddedText (a .serial) 8)) comma in
+    k .append .ensures ∙ rw (number, puts-append)
 
 pub write-identity-spec : {M : Type 1} → statement M
 write-identity-spec =

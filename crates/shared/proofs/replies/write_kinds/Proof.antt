@@ -24,11 +24,15 @@ same-length c = search needs
 
 returns : tie.Need-returns
 returns c =
-    let a = c .before .before .before .before .before .before .before .before .before .before .before .before .before .before .before .args in
-    let n = c .before .before .before .before .before .before .before .before .before .channels in
-    let comma = c .before .before .before .before .before .before .put .ensures ∙ ap (λ (p : Page). put p 44) (c .before .before .before .before .before .before .before .before .before .before .before .before .write-kind-at .ensures) in
-    c .before .before .write-kind-at2 .ensures ∙ ap (λ (p : Page). puts p (kindAt (a .readings) 1)) comma
-    ∙ puts-two (a .model) (kindAt (a .readings)) (page (a .out .now) (a .at)) (n .result) (n .ensures) (c .before .before .before .before .before .before .before .before .if1 .taken)
+    let k = c .before .before in
+    let u = k .before .before .before .before in
+    let i = u .before .before in
+    let n = i .before .channels in
+    let w = i .before .before .before .before in
+    let a = w .before .before .before .args in
+    let comma = u .put .ensures ∙ ap (λ (p : Page). put p 44) (w .write-kind-at .ensures) in
+    k .write-kind-at2 .ensures ∙ ap (λ (p : Page). puts p (kindAt (a .readings) 1)) comma
+    ∙ puts-two (a .model) (kindAt (a .readings)) (page (a .out .now) (a .at)) (n .result) (n .ensures) (i .if1 .taken)
 
 same-length-2 : tie.Need-same-length-2
 same-length-2 c = search needs

@@ -12,6 +12,19 @@ use borrow.Author.Needs.{needs}
 use Rattle.shared.proofs.replies.write_readings.Statement.{statement}
 use Rattle.shared.proofs.replies.write_readings.Tie as tie
 
+both : (c : tie.After-write-shown) → length (c .before .before .before .before .before .args .t5) ≡ 2
+both c = search needs
+
+-- the first channel's reading, as it was written
+first : (c : tie.After-write-shown)
+    → page (c .write-shown .last .0) (c .write-shown .result)
+    ≡ puts (page (c .before .before .before .before .before .args .out .now) (c .before .before .before .before .before .args .at)) (shownAt (c .before .before .before .before .before .args .unit) (c .before .before .before .before .before .args .t5) 0)
+first c =
+    let a = c .before .before .before .before .before .args in
+    let all = both c in
+    let shown = c .before .shown .ensures ∙ ap (λ r. shownOf r (a .unit)) (entry (a .t5) _ noReading 0 (omega (arith, all))) in
+    c .write-shown .ensures ∙ ap (λ s. puts (page (a .out .now) (a .at)) (shownText s)) shown
+
 array-copy-out-one : tie.Need-array-copy-out-one
 array-copy-out-one c = search needs
 
@@ -41,29 +54,28 @@ same-length c = search needs
 
 returns : tie.Need-returns
 returns c =
-    let a = c .before .before .before .before .before .before .before .before .before .before .before .before .before .before .before .before .before .before .before .args in
-    let all : length (a .t5) ≡ 2 = search needs in
-    let n = c .before .before .before .before .before .before .before .before .before .before .before .channels in
+    let k = c .before .before in
+    let u = k .before .before .before .before .before .before in
+    let i = u .before .before in
+    let n = i .before .channels in
+    let w = i .before .before .before .before in
+    let a = w .before .before .before .before .before .args in
+    let all = both w in
     let text = shownAt (a .unit) (a .t5) in
-    let p = page (a .out .now) (a .at) in
-    let q = c .before .before .before .before .before .before .before .before .put in
-    let first = c .before .before .before .before .before .before .before .before .before .before .before .before .before .before .write-shown .ensures ∙ ap (λ s. puts p (shownText s)) (c .before .before .before .before .before .before .before .before .before .before .before .before .before .before .before .shown .ensures ∙ ap (λ r. shownOf r (a .unit)) (entry (a .t5) _ noReading 0 (omega arith))) in
-    let second = c .before .before .before .shown2 .ensures ∙ ap (λ r. shownOf r (a .unit)) (entry (a .t5) _ noReading 1 (omega arith)) in
-    c .before .before .write-shown2 .ensures ∙ ap (λ s. puts (page (q .last .0) (q .result)) (shownText s)) second
-    ∙ ap (λ (r : Page). puts r (text 1)) (q .ensures ∙ ap (λ (r : Page). put r 44) first)
-    ∙ puts-two (a .model) text p (n .result) (n .ensures) (c .before .before .before .before .before .before .before .before .before .before .if1 .taken)
+    let second = k .before .shown2 .ensures ∙ ap (λ r. shownOf r (a .unit)) (entry (a .t5) _ noReading 1 (omega (arith, all))) in
+    k .write-shown2 .ensures ∙ ap (λ s. puts (page (u .put .last .0) (u .put .result)) (shownText s)) second
+    ∙ ap (λ (r : Page). puts r (text 1)) (u .put .ensures ∙ ap (λ (r : Page). put r 44) (first w))
+    ∙ puts-two (a .model) text (page (a .out .now) (a .at)) (n .result) (n .ensures) (i .if1 .taken)
 
 same-length-2 : tie.Need-same-length-2
 same-length-2 c = search needs
 
 returns-2 : tie.Need-returns-2
 returns-2 c =
-    let a = c .before .before .before .before .before .before .before .before .before .args in
-    let all : length (a .t5) ≡ 2 = search needs in
+    let w = c .before .before .before .before in
+    let a = w .before .before .before .before .before .args in
     let n = c .before .channels in
-    let p = page (a .out .now) (a .at) in
-    c .before .before .before .before .write-shown .ensures ∙ ap (λ s. puts p (shownText s)) (c .before .before .before .before .before .shown .ensures ∙ ap (λ r. shownOf r (a .unit)) (entry (a .t5) _ noReading 0 (omega arith)))
-    ∙ puts-one (a .model) (shownAt (a .unit) (a .t5)) p (n .result) (n .ensures) (c .if1 .left)
+    first w ∙ puts-one (a .model) (shownAt (a .unit) (a .t5)) (page (a .out .now) (a .at)) (n .result) (n .ensures) (c .if1 .left)
 
 pub write-readings-spec : {M : Type 1} → statement M
 write-readings-spec =

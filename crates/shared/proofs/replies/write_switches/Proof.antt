@@ -38,7 +38,11 @@ same-length : tie.Need-same-length
 same-length c = search needs
 
 returns : tie.Need-returns
-returns c = c .before .before .append .ensures ∙ rw (c .before .before .before .before .before .digit-of4 .ensures, c .before .before .before .before .before .before .digit-of3 .ensures, c .before .before .before .before .before .before .before .digit-of2 .ensures, c .before .before .before .before .before .before .before .before .digit-of .ensures)
+returns c =
+    let k = c .before .before in
+    let d = k .before .before .before in
+    k .append .ensures
+    ∙ rw (d .digit-of4 .ensures, d .before .digit-of3 .ensures, d .before .before .digit-of2 .ensures, d .before .before .before .digit-of .ensures)
 
 pub write-switches-spec : {M : Type 1} → statement M
 write-switches-spec =

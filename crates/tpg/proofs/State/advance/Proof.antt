@@ -60,13 +60,14 @@ loop-less c = omega arith
 loop-again : tie.Need-loop-again Inv-loop μ-loop
 loop-again c =
     let k = c .before .before in
-    let b = c .before .before .before .before .before .before .before in
-    let l = c .before .before .before .before .before .before .before .before .before .loop in
-    let a = c .before .before .before .before .before .before .before .before .before .before .before .before .before .before .before .before in (
+    let i = k .before .before .before in
+    let b = i .before .before in
+    let l = b .before .before .loop in
+    let start = b .before .before .before .before .before .before .before .before .before in (
       l .inv .0,
       l .inv .1,
       l .inv .2,
-      due (l .inv .3) (a .pre) (b .tick .result) (c .before .before .before .before .before .before .before .before .loop-test .taken) (b .tick .ensures) (c .before .before .before .before .before .if1 .taken) _ _
+      due (l .inv .3) (start .pre) (b .tick .result) (b .before .loop-test .taken) (b .tick .ensures) (i .if1 .taken) _ _
           (k .append .ensures ∙ ap (puts (page (l .out) (l .written))) (l .inv .2)),
     )
 
@@ -76,8 +77,9 @@ loop-less-2 c = omega arith
 loop-again-2 : tie.Need-loop-again-2 Inv-loop μ-loop
 loop-again-2 c =
     let b = c .before .before in
-    let l = c .before .before .before .before .loop in
-    (l .inv .0, l .inv .1, l .inv .2, idle (l .inv .3) (c .before .before .before .before .before .before .before .before .before .before .before .pre) (b .tick .result) (b .before .loop-test .taken) (b .tick .ensures) (c .if1 .left))
+    let l = b .before .before .loop in
+    let start = b .before .before .before .before .before .before .before .before .before in
+    (l .inv .0, l .inv .1, l .inv .2, idle (l .inv .3) (start .pre) (b .tick .result) (b .before .loop-test .taken) (b .tick .ensures) (c .if1 .left))
 
 finished-requires : tie.Need-finished-requires Inv-loop μ-loop
 finished-requires c κs = search needs

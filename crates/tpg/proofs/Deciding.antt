@@ -1,18 +1,18 @@
 -- How a call with a lent output is decided, in the order of the paper's numbers, and what is then in the output.
 use Prim.Native.Nat.{ℕ, _-_, _≤_}
 use mathlib.Core.Path.{_≡_, refl}
-use mathlib.Core.List.{List}
-use mathlib.Core.Bool.{true, false, and-true as and-end}
-use borrow.Author.Tests.{leb-true}
+use mathlib.Core.List.{List, [], _∷_, append-nil}
+use mathlib.Core.Bool.{Bool, true, false, cond, and-true as and-end}
+use borrow.Author.Tests.{leb-true, le-leb}
 use lib.ListN.{length}
 use lib.Dec.{leb}
 use Rattle.numbers.proofs.Cases.{and-true}
 use Rattle.gauges.specs.Readings.{withinLimits}
 use Rattle.gauges.specs.declared.reading.Reading.{Reading}
-use Rattle.tpg.specs.Answers.{answer, handed}
+use Rattle.tpg.specs.Answers.{answer, handed, leastOutput}
 use Rattle.tpg.specs.States.{stateWithin}
-use Rattle.tpg.specs.Steps.{over}
-use Rattle.tpg.specs.Calls.{admits, turnedAway, roomed, roomedBytes, isChannel, read, readingCall}
+use Rattle.tpg.specs.Steps.{sent, after, said, taken, over}
+use Rattle.tpg.specs.Calls.{admits, turnedAway, roomed, roomedBytes, byteTaken, byteCall, byteBytes, hostText, hosted, hostCall, hostBytes, isChannel, read, readingCall}
 use Rattle.tpg.specs.declared.State.{State}
 use Rattle.tpg.specs.declared.answers.Outcome.{Outcome}
 
@@ -34,6 +34,21 @@ module _ (s : State) (least : ℕ) (o : Outcome) (bytes out : List ℕ) where
   pub turned : admits s least (length out) ≡ false → (turnedAway s ≡ roomed s least (length out) o) × (out ≡ over (roomedBytes s least (length out) bytes) out)
   unfolding roomed roomedBytes over
   turned e = rw e (refl, refl)
+
+-- one byte alone is taken and answered where it is admitted, as the call that takes several does it
+module _ (s : State) (b room : ℕ) where
+  one-taken : leastOutput ≤ room → (hosted s (b ∷ []) room ≡ byteTaken s b) × (hostText s (b ∷ []) room ≡ sent s b)
+  unfolding hosted taken after said byteTaken
+  one-taken h = rw (le-leb leastOutput room h, append-nil (sent s b)) (refl, refl)
+
+  pub byte-hosted : (hostCall s (b ∷ []) room ≡ byteCall s b room) × (hostBytes s (b ∷ []) room ≡ byteBytes s b room)
+  unfolding roomed roomedBytes
+  byte-hosted = by (admits s leastOutput room) (roomy s leastOutput room)
+    where
+      by : (t : Bool) → (t ≡ true → leastOutput ≤ room)
+          → (cond t (hosted s (b ∷ []) room) (turnedAway s) ≡ cond t (byteTaken s b) (turnedAway s)) × (cond t (hostText s (b ∷ []) room) [] ≡ cond t (sent s b) [])
+      by true h = one-taken (h refl)
+      by false h = (refl, refl)
 
 -- and a reading
 module _ (s : State) (channel : ℕ) (r : Reading) where

@@ -18,7 +18,7 @@ use Rattle.shared.specs.Replies.{streamText}
 use Rattle.shared.specs.declared.Shared.{Shared}
 use Rattle.tpg.specs.Answers.{answer, handed, done, leastOutput}
 use Rattle.tpg.specs.States.{stateWithin, freshBox, cycled}
-use Rattle.tpg.specs.Steps.{after, said, taken}
+use Rattle.tpg.specs.Steps.{next, sent, after, said, taken}
 use Rattle.tpg.specs.declared.State.{State}
 use Rattle.tpg.specs.declared.answers.Outcome.{Outcome}
 
@@ -46,6 +46,18 @@ roomed s least room accepted = cond (admits s least room) accepted (turnedAway s
 -- what such a call sends: a refusal sends nothing
 unfoldable pub roomedBytes : State → ℕ → ℕ → List ℕ → List ℕ
 roomedBytes s least room bytes = cond (admits s least room) bytes []
+
+-- one byte taken: "values handed in and handed back"
+unfoldable pub byteTaken : State → ℕ → Outcome
+byteTaken s b = done (next s b) 1 (length (sent s b))
+
+-- the call that takes one byte of the host
+abbrev pub byteCall : State → ℕ → ℕ → Outcome
+byteCall s b room = roomed s leastOutput room (byteTaken s b)
+
+-- and what it sends
+abbrev pub byteBytes : State → ℕ → ℕ → List ℕ
+byteBytes s b room = roomedBytes s leastOutput room (sent s b)
 
 -- the host's bytes that are taken
 abbrev pub takenBytes : State → List ℕ → ℕ → List ℕ

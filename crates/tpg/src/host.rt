@@ -3,7 +3,7 @@ ghost use mathlib.Core.Path.{_≡_};
 ghost use lib.ListN.{length};
 ghost use Rattle.text.specs.Page.{page, puts};
 ghost use Rattle.tpg.specs.Steps.{lineText, over};
-ghost use Rattle.tpg.specs.Calls.{hosted, hostText, hostCall, hostBytes};
+ghost use Rattle.tpg.specs.Calls.{hosted, hostText, hostCall, hostBytes, byteCall, byteBytes};
 use crate::State;
 use crate::answers::Outcome;
 use crate::answers::finished;
@@ -95,5 +95,12 @@ impl State {
             return self.run(input, out);
         }
         self.turned_away()
+    }
+
+    // One byte from the host.
+    pub fn byte(self, b: u8, out: &mut [u8]) -> Outcome
+        ensures { λ r. ⌜ (r ≡ byteCall self b (length (now (out .entry)))) × (now (out .exit) ≡ over (byteBytes self b (length (now (out .entry)))) (now (out .entry))) ⌝ }
+    {
+        self.host(&[b], out)
     }
 }

@@ -1,6 +1,6 @@
 -- Demand 1: what every call answers, what a refusal leaves alone, and the limits that every state keeps (01, "Answer numbers of the calls").
 use Prim.Native.Nat.{ℕ, _-_, _*_}
-use mathlib.Core.Path.{_≡_, refl, ap, _∙_}
+use mathlib.Core.Path.{_≡_, refl, ap, subst, _∙_}
 use mathlib.Core.List.{List, [], _∷_}
 use mathlib.Core.Bool.{Bool, true, false, cond, not, _&&_, _||_}
 use mathlib.Core.Logic.{_≢_}
@@ -29,13 +29,14 @@ use Rattle.shared.specs.declared.Shared.{Shared}
 use Rattle.tpg.specs.Answers.{number, answer, handed, leastOutput}
 use Rattle.tpg.specs.States.{stateWithin, freshBox, cycled, Sound}
 use Rattle.tpg.specs.Steps.{lineText, eventText, acted, next, sent, after, over}
-use Rattle.tpg.specs.Calls.{made, freshCall, admits, turnedAway, roomed, roomedBytes, hosted, hostText, counted, tickText, ticksText, allCounted, isChannel, read, readingCall, cycleCall}
+use Rattle.tpg.specs.Calls.{made, freshCall, admits, turnedAway, roomed, roomedBytes, byteTaken, hosted, hostText, counted, tickText, ticksText, allCounted, isChannel, read, readingCall, cycleCall}
 use Rattle.tpg.specs.declared.State.{State}
 use Rattle.tpg.specs.declared.answers.Outcome.{Outcome}
+use Rattle.tpg.proofs.Deciding.{byte-hosted}
 use Rattle.tpg.proofs.Refusals.{roomed-back, reading-back, cycle-back, untouched}
 use Rattle.tpg.proofs.Kept as kept
-use Rattle.demands.specs.Calls.{Call, host, reading, tick, ticks, cycle, outcome, bytes, Refusal, row, refusals, freshRefusals, firstGiven, afterCalls}
-use Rattle.demands.specs.Wire.{nak, ended}
+use Rattle.demands.specs.Calls.{Call, byte, host, reading, tick, ticks, cycle, outcome, bytes, Refusal, row, refusals, freshRefusals, firstGiven, afterCalls}
+use Rattle.demands.specs.Wire.{nak, cr, ended}
 
 -- ---- the table
 
@@ -85,7 +86,8 @@ module _ (s : State) where
       by true = (refl, refl)
 
   tabled : (c : Call) → Tabled (outcome s c) (refusals s c) (bytes s c)
-  unfolding hosted counted
+  unfolding byteTaken hosted counted
+  tabled (byte b room) = roomed-tabled leastOutput room (byteTaken s b) (sent s b) refl refl
   tabled (host input room) = roomed-tabled leastOutput room (hosted s input room) (hostText s input room) refl refl
   tabled (reading channel r) = reading-tabled channel r
   tabled (tick room) = roomed-tabled leastOutput room (counted s) (tickText s) refl refl
@@ -128,7 +130,8 @@ fresh-refused n serial = by (modelOf n)
 
 -- a refused call hands the state back, and sends nothing
 back : (s : State) (c : Call) → number (outcome s c .answer) ≢ 0 → (outcome s c ≡ handed (outcome s c .answer) s) × (bytes s c ≡ [])
-unfolding hosted counted
+unfolding byteTaken hosted counted
+back s (byte b room) = roomed-back s leastOutput room (byteTaken s b) (sent s b) refl
 back s (host input room) = roomed-back s leastOutput room (hosted s input room) (hostText s input room) refl
 back s (reading channel r) = λ given. (reading-back s channel r given, refl)
 back s (tick room) = roomed-back s leastOutput room (counted s) (tickText s) refl
@@ -165,7 +168,7 @@ byte-keeps s b =
     (λ _. refl) (λ cr refused. nak-keeps (s .shared) (judged (s .shared .model) (held (s .port))) (refused cr)) (λ _. refl) (λ m _ _. refl)
 
 -- "A refused line leaves settings, saved set and readings as they were", over all its bytes
-pub refused-line : (s : State) (l : List ℕ) → Each (λ b. b ≢ 13) l → sent (after s l) 13 ≡ nak → after s (ended l) .shared ≡ s .shared
+pub refused-line : (s : State) (l : List ℕ) → Each (λ b. b ≢ 13) l → sent (after s l) 13 ≡ nak → after s (ended cr l) .shared ≡ s .shared
 unfolding after
 refused-line s [] others refused = byte-keeps s 13 (λ _. refused)
 refused-line s (b ∷ bs) others refused = refused-line (next s b) bs (others .1) refused ∙ byte-keeps s b (λ cr. absurd (others .0 cr))
@@ -174,6 +177,7 @@ refused-line s (b ∷ bs) others refused = refused-line (next s b) bs (others .1
 
 -- every call keeps the limits of the state
 pub call-sound : (s : State) → Sound s → (c : Call) → Sound (outcome s c .state)
+call-sound s k (byte b room) = subst Sound (ap (λ (o : Outcome). o .state) (byte-hosted s b room .0)) (kept.host-sound s k (b ∷ []) room)
 call-sound s k (host input room) = kept.host-sound s k input room
 call-sound s k (reading channel r) = kept.reading-sound s k channel r
 call-sound s k (tick room) = kept.tick-sound s k room

@@ -1,13 +1,16 @@
 -- Demand 3: a sheet of settings is read from one box and sent to another of the model, over bytes. Proved over a list of settings, and so
 -- over the sheet of any model.
-use Prim.Native.Nat.{ℕ, _<_}
+use Prim.Native.Nat.{ℕ, zero, suc, _+_, _<_}
 use mathlib.Core.Path.{_≡_, refl, sym, ap, ap₂, subst, _∙_}
 use mathlib.Core.List.{List, [], _∷_, _++_, map, flatMap, append-assoc}
 use mathlib.Core.Bool.{true}
 use mathlib.Core.Logic.{_≢_}
 use native.Mathlib.Omega.{arith}
-use lib.ListN.{take, drop}
+use borrow.Author.Tests.{lt-ltb, ne-eqb}
+use lib.ListN.{length, take, drop}
+use lib.Seq.{drop-append-seam, drop-drop}
 use Rattle.numbers.proofs.Cases.{and-true}
+use Rattle.text.specs.Spans.{until}
 use Rattle.settings.specs.Models.{channels}
 use Rattle.settings.specs.Mnemonics.{sheet, name}
 use Rattle.settings.specs.Rows.{cells}
@@ -41,9 +44,9 @@ use Rattle.tpg.specs.States.{stateWithin, Sound}
 use Rattle.tpg.specs.Steps.{next, after, said}
 use Rattle.tpg.specs.declared.State.{State}
 use Rattle.tpg.proofs.Runs.{after-append, said-append}
-use Rattle.tpg.proofs.Kept.{heard-model}
-use Rattle.demands.specs.Wire.{ack, ended, asking, replies, acks, questions, orders}
-use Rattle.demands.specs.Demands.{boxModel, boxSettings, sheetAsked, Boxes, SheetRead, linesOf, SheetCopied, SheetCut, SheetsDecide}
+use Rattle.tpg.proofs.Kept.{heard-model, after-sound, after-model}
+use Rattle.demands.specs.Wire.{ack, End, ended, anew, enquiries}
+use Rattle.demands.specs.Sheets.{boxModel, boxSettings, Boxes, questions, sheetAsked, replies, firstLine, behindLine, copyLines, copyOf, linesSent, acks, SheetRead, SheetCopied, SheetCut, SheetsDecide}
 use Rattle.demands.proofs.Ending.{Line}
 use Rattle.demands.proofs.Typing.{line-judged, line-asked, anew-line, anew-shared, anew-said, anew-after}
 use Rattle.demands.proofs.Spelling.{Character, Typeable, typeable-inner, typeable-line, Short, names-short, name-typeable, setting-characters, line-typeable, name-judged}
@@ -57,22 +60,48 @@ record Asked (model : Model) (x : Setting) : Type 0 where
 
 -- ---- the inquiries
 
-module _ (shared : Shared) where
+module _ (e : End) (shared : Shared) where
   inquired : (xs : List Setting) (s : State) {selection : Selection} {error : Word} → s .shared ≡ shared → Line (s .port) [] selection error → Each (Asked (shared .model)) xs
-      → (said s (questions xs) ≡ replies (shared .model) (shared .settings) xs)
-      × (after s (questions xs) .shared ≡ shared)
+      → (said s (questions e xs) ≡ replies (shared .model) (shared .settings) xs)
+      × (after s (questions e xs) .shared ≡ shared)
   unfolding flatMap after said replyText
   inquired [] s same empty h = (refl, same)
   inquired (x ∷ xs) s {error = error} same empty h =
-      let bytes = asking (name (Of x)) in
-      let rest = questions xs in
+      let bytes = ended e (name (Of x)) ++ enquiries 1 in
+      let rest = questions e xs in
       let verdict : judged (s .shared .model) (name (Of x)) ≡ Asks (Of x) = ap (λ (t : Shared). judged (t .model) (name (Of x))) same ∙ h .0 .asks in
       let t = name-typeable (Of x) (h .0 .short) in
-      let one = line-asked s empty (name (Of x)) (typeable-inner (name (Of x)) t) (Asks (Of x)) (ap (judged (s .shared .model)) (typeable-line (name (Of x)) t) ∙ verdict) in
+      let one = line-asked s empty (name (Of x)) (typeable-inner (name (Of x)) t) (Asks (Of x)) (ap (judged (s .shared .model)) (typeable-line (name (Of x)) t) ∙ verdict) e in
       let all = inquired xs (after s bytes) (one .1 ∙ same) (one .2) (h .1) in (
         said-append bytes rest s ∙ ap₂ (λ (t u : List ℕ). t ++ u) (one .0 ∙ ap (λ (t : Shared). ack ++ replyText t error (Of x)) same) (all .0),
         ap (λ (t : State). t .shared) (after-append bytes rest s) ∙ all .1,
       )
+
+-- ---- the lines that are made of the replies
+
+-- a line of what was received ends before its CR, and behind its CR LF the next one begins
+pub first-line : (t rest : List ℕ) → Each (λ (c : ℕ). c ≢ 13) t → firstLine (t ++ (13 ∷ 10 ∷ rest)) ≡ t
+unfolding until
+first-line [] rest p = refl
+first-line (c ∷ t) rest p = rw (ne-eqb c 13 (p .0)) (ap (λ (l : List ℕ). c ∷ l) (first-line t rest (p .1)))
+
+behind-line : (t rest : List ℕ) → Each (λ (c : ℕ). c ≢ 13) t → behindLine (t ++ (13 ∷ 10 ∷ rest)) ≡ rest
+behind-line t rest p =
+    let all = t ++ (13 ∷ 10 ∷ rest) in
+    ap (λ (l : List ℕ). drop (length l + 2) all) (first-line t rest p) ∙ sym (drop-drop 2 (length t) all) ∙ ap (drop 2) (drop-append-seam t (13 ∷ 10 ∷ rest))
+
+pub no-cr : (l : List ℕ) → Each Character l → Each (λ (c : ℕ). c ≢ 13) l
+no-cr = each-map Character (λ (c : ℕ). c ≢ 13) (λ c h e. omega (arith, h .0))
+
+-- from the replies of a box come the lines of its settings
+lines-copied : (model : Model) (a : Settings) (xs : List Setting) → copyLines xs (replies model a xs) ≡ map (lineOf model a) xs
+unfolding copyLines flatMap until
+lines-copied model a [] = refl
+lines-copied model a (x ∷ xs) =
+    let t = settingText model a x in
+    let rest = replies model a xs in
+    let plain = no-cr t (setting-characters model a x) in
+    rw (append-assoc t lineEnd rest, behind-line t rest plain, first-line t rest plain, lines-copied model a xs)
 
 -- ---- the lines of a sheet
 
@@ -89,25 +118,29 @@ heard-settings s (Asks m) = refl
 heard-settings s (Writes m r) = refl
 heard-settings s (Refused x) = refl
 
-module _ (model : Model) (a : Settings) where
-  -- what lines make of a box: all are accepted, and its settings are those after the lines
+module _ (f : End) (model : Model) (a : Settings) where
+  -- the bytes of a's lines for some settings
+  abbrev orders : List Setting → List ℕ
+  orders xs = flatMap (ended f) (map (lineOf model a) xs)
+
+  -- what they make of a box: all are accepted, and its settings are those after the lines
   record Made (xs : List Setting) (s : State) : Type 0 where
-    accepted : said s (orders model a xs) ≡ acks xs
-    settings : boxSettings (after s (orders model a xs)) ≡ afterLines model (boxSettings s) (map (lineOf model a) xs)
-    saved : after s (orders model a xs) .shared .saved ≡ s .shared .saved
-    readings : after s (orders model a xs) .shared .readings ≡ s .shared .readings
+    accepted : said s (orders xs) ≡ acks xs
+    settings : boxSettings (after s (orders xs)) ≡ afterLines model (boxSettings s) (map (lineOf model a) xs)
+    saved : after s (orders xs) .shared .saved ≡ s .shared .saved
+    readings : after s (orders xs) .shared .readings ≡ s .shared .readings
 
   commanded : (xs : List Setting) (s : State) {selection : Selection} {error : Word} → boxModel s ≡ model → Line (s .port) [] selection error → Each (Sent model a) xs → Made xs s
   unfolding flatMap after said written
   commanded [] s same empty h = record { accepted = refl; settings = refl; saved = refl; readings = refl }
   commanded (x ∷ xs) s same empty h =
       let line = lineOf model a x in
-      let bytes = ended line in
-      let rest = orders model a xs in
+      let bytes = ended f line in
+      let rest = orders xs in
       let v = Writes (Of x) (h .0 .row) in
       let verdict : judged (boxModel s) line ≡ v = ap (λ (m : Model). judged m line) same ∙ h .0 .writes in
       let t = h .0 .typeable in
-      let one = line-judged s empty line (typeable-inner line t) v (ap (judged (boxModel s)) (typeable-line line t) ∙ verdict) in
+      let one = line-judged s empty line (typeable-inner line t) v (ap (judged (boxModel s)) (typeable-line line t) ∙ verdict) f in
       let now = after s bytes in
       let all = commanded xs now (ap (λ (t : Shared). t .model) (one .shared) ∙ heard-model (s .shared) v ∙ same) (one .line) (h .1) in
       let set : boxSettings now ≡ effect model (boxSettings s) (judged model line) =
@@ -121,14 +154,17 @@ module _ (model : Model) (a : Settings) where
 
 -- ---- the sheet of a model
 
-some-channel : (model : Model) → 0 < channels model
+pub some-channel : (model : Model) → 0 < channels model
 some-channel Tpg361 = omega arith
 some-channel Tpg362 = omega arith
+
+name-asks : (model : Model) (x : Setting) → Spelt model (Of x) → judged model (name (Of x)) ≡ Asks (Of x)
+name-asks model x sp = name-judged model (Of x) sp ∙ rw (lt-ltb 0 (channels model) (some-channel model))
 
 sheet-asked : (model : Model) → Each (Asked model) (sheet model)
 sheet-asked model =
     each-both (λ (x : Setting). Spelt model (Of x)) (λ (x : Setting). Short (name (Of x))) (Asked model)
-    (λ x sp short. record { short = short; asks = name-judged model (Of x) sp (some-channel model) }) (sheet model)
+    (λ x sp short. record { short = short; asks = name-asks model x sp }) (sheet model)
     (sheet-each (Spelt model) model (all-spelt model)) (sheet-each (λ (m : Mnemonic). Short (name m)) model (names-short model))
 
 settings-within : (s : State) → Sound s → within (boxModel s) (boxSettings s) ≡ true
@@ -142,29 +178,46 @@ sheet-sent a k =
     (λ x short e. record { typeable = line-typeable model (boxSettings a) x short; row = rowOf (cells model (boxSettings a) x); writes = e }) (sheet model)
     (sheet-each (λ (m : Mnemonic). Short (name m)) model (names-short model)) (sheet-accepted model (boxSettings a) (settings-within a k))
 
--- ---- the four theorems
+-- ---- the theorems
 
 pub sheet-read : SheetRead said after
-sheet-read a k =
-    let all = inquired (a .shared) (sheet (boxModel a)) (next a 3) (anew-shared a) (anew-line a) (sheet-asked (boxModel a)) in
+sheet-read a k e =
+    let all = inquired e (a .shared) (sheet (boxModel a)) (next a 3) (anew-shared a) (anew-line a) (sheet-asked (boxModel a)) in
     (anew-said a _ ∙ all .0, ap boxSettings (anew-after a _) ∙ ap (λ (t : Shared). t .settings) (all .1))
 
-module _ (a b : State) (both : Boxes a b) where
-  made : (xs : List Setting) → Each (Sent (boxModel a) (boxSettings a)) xs → Made (boxModel a) (boxSettings a) xs (next b 3)
-  made xs = commanded (boxModel a) (boxSettings a) xs (next b 3) (ap (λ (t : Shared). t .model) (anew-shared b) ∙ sym (both .model)) (anew-line b)
+-- the lines of a box, for some settings
+abbrev linesFor : State → List Setting → List (List ℕ)
+linesFor a xs = map (lineOf (boxModel a) (boxSettings a)) xs
+
+map-take : {A B : Type 0} (f : A → B) (n : ℕ) (xs : List A) → take n (map f xs) ≡ map f (take n xs)
+map-take f zero xs = refl
+map-take f (suc n) [] = refl
+map-take f (suc n) (x ∷ xs) = ap (λ (l : List _). f x ∷ l) (map-take f n xs)
+
+-- what a host makes of the bytes that it received are the lines of the box's settings, and the first of them
+copy-lines : (a : State) → Sound a → (e : End) → copyOf said e a ≡ linesFor a (sheet (boxModel a))
+copy-lines a k e = ap (copyLines (sheet (boxModel a))) (sheet-read a k e .0) ∙ lines-copied (boxModel a) (boxSettings a) (sheet (boxModel a))
+
+copy-cut : (a : State) → Sound a → (e : End) (n : ℕ) → take n (copyOf said e a) ≡ linesFor a (take n (sheet (boxModel a)))
+copy-cut a k e n = ap (take n) (copy-lines a k e) ∙ map-take (lineOf (boxModel a) (boxSettings a)) n (sheet (boxModel a))
+
+module _ (a b : State) (both : Boxes a b) (f : End) where
+  made : (xs : List Setting) → Each (Sent (boxModel a) (boxSettings a)) xs → Made f (boxModel a) (boxSettings a) xs (next b 3)
+  made xs = commanded f (boxModel a) (boxSettings a) xs (next b 3) (ap (λ (t : Shared). t .model) (anew-shared b) ∙ sym (both .model)) (anew-line b)
 
   -- the settings after lines of the sheet, and what no line of it changes
   copied : (xs : List Setting) → Each (Sent (boxModel a) (boxSettings a)) xs
-      → boxSettings (after b (linesOf a xs)) ≡ afterLines (boxModel a) (boxSettings b) (map (lineOf (boxModel a) (boxSettings a)) xs)
+      → boxSettings (after b (linesSent f (linesFor a xs))) ≡ afterLines (boxModel a) (boxSettings b) (linesFor a xs)
   copied xs h =
       ap boxSettings (anew-after b _) ∙ made xs h .settings
-      ∙ ap (λ (t : Shared). afterLines (boxModel a) (t .settings) (map (lineOf (boxModel a) (boxSettings a)) xs)) (anew-shared b)
+      ∙ ap (λ (t : Shared). afterLines (boxModel a) (t .settings) (linesFor a xs)) (anew-shared b)
 
   -- no line of the sheet touches the saved set or a reading
-  pub copy-keeps : (n : ℕ) → let c = after b (linesOf a (take n (sheet (boxModel a)))) in
+  pub copy-keeps : (e : End) (n : ℕ) → let c = after b (linesSent f (take n (copyOf said e a))) in
       (c .shared .saved ≡ b .shared .saved) × (c .shared .readings ≡ b .shared .readings)
-  copy-keeps n =
-      let m = made (take n (sheet (boxModel a))) (each-take (Sent (boxModel a) (boxSettings a)) n (sheet (boxModel a)) (sheet-sent a (both .first))) in (
+  copy-keeps e n =
+      let m = made (take n (sheet (boxModel a))) (each-take (Sent (boxModel a) (boxSettings a)) n (sheet (boxModel a)) (sheet-sent a (both .first))) in
+      rw (copy-cut a (both .first) e n) (
         ap (λ (t : State). t .shared .saved) (anew-after b _) ∙ m .saved ∙ ap (λ (t : Shared). t .saved) (anew-shared b),
         ap (λ (t : State). t .shared .readings) (anew-after b _) ∙ m .readings ∙ ap (λ (t : Shared). t .readings) (anew-shared b),
       )
@@ -173,27 +226,49 @@ module _ (a b : State) (both : Boxes a b) where
   own : within (boxModel a) (boxSettings b) ≡ true
   own = subst (λ m. within m (boxSettings b) ≡ true) (sym (both .model)) (settings-within b (both .second))
 
+  -- all lines: accepted, and the settings are those of the first box
+  all-copied : let sent = linesSent f (linesFor a (sheet (boxModel a))) in
+      (said b sent ≡ acks (sheet (boxModel a))) × (boxSettings (after b sent) ≡ boxSettings a)
+  all-copied =
+      let model = boxModel a in
+      let sent = sheet-sent a (both .first) in (
+        anew-said b _ ∙ made (sheet model) sent .accepted,
+        copied (sheet model) sent
+            ∙ whole-copy model (boxSettings a) (boxSettings b) (both .first .formed .shared .settings) (both .second .formed .shared .settings)
+            (settings-within a (both .first)) own,
+      )
+
+-- boxes of one model with equal settings send the same sheet
+same-sheet : (a c : State) → Boxes a c → boxSettings c ≡ boxSettings a → (e f : End) → said c (sheetAsked e c) ≡ said a (sheetAsked f a)
+same-sheet a c both equal e f =
+    sheet-read c (both .second) e .0 ∙ ap₂ (λ (m : Model) (s : Settings). replies m s (sheet m)) (sym (both .model)) equal ∙ sym (sheet-read a (both .first) f .0)
+
+-- after bytes a box is still of the model
+sent-boxes : (a b : State) → Boxes a b → (bytes : List ℕ) → Boxes a (after b bytes)
+sent-boxes a b both bytes = record { first = both .first; second = after-sound bytes b (both .second); model = both .model ∙ sym (after-model bytes b) }
+
 pub sheet-copied : SheetCopied said after
-sheet-copied a b both =
-    let model = boxModel a in
-    let sent = sheet-sent a (both .first) in (
-      anew-said b _ ∙ made a b both (sheet model) sent .accepted,
-      copied a b both (sheet model) sent
-          ∙ whole-copy model (boxSettings a) (boxSettings b) (both .first .formed .shared .settings) (both .second .formed .shared .settings)
-          (settings-within a (both .first)) (own a b both),
+sheet-copied a b both e f =
+    let sent = linesSent f (linesFor a (sheet (boxModel a))) in
+    let all = all-copied a b both f in
+    rw (copy-lines a (both .first) e) (
+      all .0,
+      all .1,
+      ap (λ (m : Model). said (after b sent) (anew (questions e (sheet m)))) (sym (after-model sent b)) ∙ same-sheet a (after b sent) (sent-boxes a b both sent) (all .1) e e,
     )
 
 pub sheet-cut : SheetCut said after
-sheet-cut a b both n =
+sheet-cut a b both e f n =
     let model = boxModel a in
     let sent = each-take (Sent model (boxSettings a)) n (sheet model) (sheet-sent a (both .first)) in
-    let e = copied a b both (take n (sheet model)) sent in
+    let is = copied a b both f (take n (sheet model)) sent in
     let sa = both .first .formed .shared .settings in
     let sb = both .second .formed .shared .settings in
-    let wa = settings-within a (both .first) in (
-      anew-said b _ ∙ made a b both (take n (sheet model)) sent .accepted,
-      rw e (cut-named model (boxSettings a) (boxSettings b) sa sb wa (own a b both) n),
-      rw e (cut-others model (boxSettings a) (boxSettings b) sa sb wa (own a b both) n),
+    let wa = settings-within a (both .first) in
+    rw (copy-cut a (both .first) e n) (
+      anew-said b _ ∙ made a b both f (take n (sheet model)) sent .accepted,
+      rw is (cut-named model (boxSettings a) (boxSettings b) sa sb wa (own a b both f) n),
+      rw is (cut-others model (boxSettings a) (boxSettings b) sa sb wa (own a b both f) n),
     )
 
 -- ---- a sheet tells the settings
@@ -208,9 +283,6 @@ until-cr (c ∷ t) (d ∷ u) x y p q e =
     let same : c ≡ d = cc in
     (ap₂ (λ (h : ℕ) (l : List ℕ). h ∷ l) same (both .0), both .1)
 
-no-cr : (l : List ℕ) → Each Character l → Each (λ (c : ℕ). c ≢ 13) l
-no-cr = each-map Character (λ (c : ℕ). c ≢ 13) (λ c h e. omega (arith, h .0))
-
 -- each reply ends at its CR, so equal bytes are equal replies
 replies-texts : (model : Model) (a b : Settings) (xs : List Setting) → replies model a xs ≡ replies model b xs → map (settingText model a) xs ≡ map (settingText model b) xs
 unfolding flatMap
@@ -224,13 +296,13 @@ replies-texts model a b (x ∷ xs) e =
     ap₂ (λ (h : List ℕ) (l : List (List ℕ)). h ∷ l) (r .0) (replies-texts model a b xs (ap (drop 1) (r .1)))
 
 pub sheets-decide : SheetsDecide said
-sheets-decide a b both =
+sheets-decide a b both e f =
     let model = boxModel a in
-    let first = sheet-read a (both .first) .0 in
-    let second : said b (sheetAsked b) ≡ replies model (boxSettings b) (sheet model) =
-    sheet-read b (both .second) .0 ∙ ap (λ (m : Model). replies m (boxSettings b) (sheet m)) (sym (both .model)) in
+    let first = sheet-read a (both .first) e .0 in
+    let second : said b (sheetAsked f b) ≡ replies model (boxSettings b) (sheet model) =
+    sheet-read b (both .second) f .0 ∙ ap (λ (m : Model). replies m (boxSettings b) (sheet m)) (sym (both .model)) in
     let decide = equal-sheets model (boxSettings a) (boxSettings b) (both .first .formed .shared .settings) (both .second .formed .shared .settings)
-    (settings-within a (both .first)) (own a b both) in (
-      (λ e. decide .0 (replies-texts model (boxSettings a) (boxSettings b) (sheet model) (sym first ∙ e ∙ second))),
-      (λ e. first ∙ ap (λ (s : Settings). replies model s (sheet model)) e ∙ sym second),
+    (settings-within a (both .first)) (own a b both f) in (
+      (λ same. decide .0 (replies-texts model (boxSettings a) (boxSettings b) (sheet model) (sym first ∙ same ∙ second))),
+      (λ same. sym (same-sheet a b both (sym same) f e)),
     )

@@ -1,14 +1,15 @@
--- What stands in a port of a line, and what ends it: its CR, the ENQ behind it, the ETX before it.
+-- What stands in a port of a line, and what ends it: its CR, an LF and the ENQ behind it, the ETX before it.
 use Prim.Native.Nat.{ℕ}
 use mathlib.Core.Path.{_≡_, refl, ap}
 use mathlib.Core.List.{List, []}
-use mathlib.Core.Bool.{Bool, true, false, cond, and-false}
+use mathlib.Core.Bool.{Bool, true, false, cond, _&&_, and-false}
 use lib.ListN.{length, take}
 use lib.Dec.{eqb}
+use Rattle.numbers.proofs.Cases.{cond-cases}
 use Rattle.settings.specs.Mnemonics.{isErr}
 use Rattle.settings.specs.Rows.{number}
 use Rattle.settings.specs.declared.model.Model.{Model}
-use Rattle.settings.specs.declared.mnemonic.Query.the-variants.{Err}
+use Rattle.settings.specs.declared.mnemonic.Query.the-variants.{Sps, Pr, Prx, Tid, Ayt, Err}
 use Rattle.settings.specs.declared.mnemonic.Mnemonic.{Mnemonic}
 use Rattle.settings.specs.declared.mnemonic.Mnemonic.the-variants.{Setting as Of, Cf, Query as Asked, Com, Sav}
 use Rattle.settings.specs.declared.rows.Row.{Row}
@@ -19,7 +20,8 @@ use Rattle.lines.specs.declared.verdict.Verdict.{Verdict}
 use Rattle.lines.specs.declared.verdict.Verdict.the-variants.{Asks, Writes, Refused}
 use Rattle.ports.specs.Line.{emptied, held, isEmpty}
 use Rattle.ports.specs.Stream.{intervalOf, withStream, begun}
-use Rattle.ports.specs.Hearing.{kindOf, withMark, withChoice, selected, concluded, answered, replied, asked, byKind, heard as portHeard, settled}
+use Rattle.ports.specs.Hearing.{kindOf, withMark, withChoice, selected, concluded, answered, replied, asked, quiet, byKind, heard as portHeard, settled}
+use Rattle.ports.specs.declared.Heard.{Heard}
 use Rattle.ports.specs.declared.Port.{Port}
 use Rattle.ports.specs.declared.Selection.{Selection}
 use Rattle.ports.specs.declared.Selection.the-variants.{Nothing, Of as Chosen}
@@ -28,7 +30,6 @@ use Rattle.shared.specs.Replies.{replyText}
 use Rattle.shared.specs.declared.Shared.{Shared}
 use Rattle.tpg.specs.Steps.{lineText, eventText, acted, next, sent}
 use Rattle.tpg.specs.declared.State.{State}
-use Rattle.demands.specs.Wire.{ended}
 
 -- ---- what a line is in a port
 
@@ -86,7 +87,7 @@ concluded-line {p} {selection} {error} h (Writes m r) = begun-line m r (with-cho
 concluded-line {p} {selection} {error} h (Refused x) =
     with-choice h Nothing (gathered (p .error) x) (gathered error x) (ap (λ (w : Word). gathered w x) (h .word))
 
--- ---- one byte that is no character: CR, ENQ, ETX
+-- ---- one byte that is no character: CR, ENQ, ETX, LF
 
 -- straight after a CR or not, it is no LF
 no-lf : (model : Model) (p : Port) (b : ℕ) → eqb b 10 ≡ false → portHeard model p b ≡ byKind model (kindOf b) (settled p) b
@@ -116,6 +117,21 @@ enqText s error (Chosen m) = replyText s error m
 abbrev pub wordLeft : Word → Selection → Word
 wordLeft error Nothing = noError
 wordLeft error (Chosen m) = cond (isErr m) noError error
+
+-- a reply tells the error word only where it is ERR's or stands for none, and then the word is gone
+pub told-once : (s : Shared) (error : Word) (selection : Selection) → enqText s (wordLeft error selection) selection ≡ enqText s noError selection
+unfolding replyText
+told-once s error Nothing = refl
+told-once s error (Chosen (Of x)) = refl
+told-once s error (Chosen (Cf k)) = refl
+told-once s error (Chosen (Asked Sps)) = refl
+told-once s error (Chosen (Asked (Pr k))) = refl
+told-once s error (Chosen (Asked Prx)) = refl
+told-once s error (Chosen (Asked Tid)) = refl
+told-once s error (Chosen (Asked Ayt)) = refl
+told-once s error (Chosen (Asked Err)) = refl
+told-once s error (Chosen Com) = refl
+told-once s error (Chosen Sav) = refl
 
 pub record Replied (s : Shared) (error : Word) (selection : Selection) (bytes : List ℕ) (next : State) : Type 0 where
   pub reply : bytes ≡ enqText s error selection
@@ -152,6 +168,14 @@ module _ (s : State) where
   enq-replies {selection} {error} h =
       rw (no-lf (s .shared .model) (s .port) 5 refl, asked-empty (settled-line h))
       (let a = answered-line (s .shared) (settled-line h) in record { reply = a .0; shared = a .1; line = a .2 })
+
+  -- an LF, straight after a CR or not, sends nothing and leaves the line as it is
+  pub lf-nothing : {l : List ℕ} {selection : Selection} {error : Word} → Line (s .port) l selection error
+      → (sent s 10 ≡ []) × (next s 10 .shared ≡ s .shared) × Line (next s 10 .port) l selection error
+  unfolding next sent eventText portHeard byKind kindOf
+  lf-nothing {l} {selection} {error} h =
+      cond-cases (λ (x : Heard). (eventText (s .shared) (x .event) ≡ []) × (acted (s .shared) (x .event) ≡ s .shared) × Line (x .port) l selection error) (s .port .ended && eqb 10 10)
+      (quiet (withMark (s .port) false)) (quiet (settled (s .port))) (λ _. (refl, refl, marked-line h false)) (λ _. (refl, refl, settled-line h))
 
   pub etx-empties : (sent s 3 ≡ []) × (next s 3 .shared ≡ s .shared) × Line (next s 3 .port) [] Nothing (s .port .error)
   unfolding next sent eventText byKind kindOf

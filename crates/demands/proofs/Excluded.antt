@@ -2,49 +2,59 @@
 use Prim.Native.Nat.{ℕ}
 use Prim.Native.String.{String}
 use mathlib.Core.Path.{_≡_, refl, sym, ap, subst, _∙_}
-use mathlib.Core.List.{List, [], _∷_, map, flatMap}
-use mathlib.Core.Bool.{Bool, true, not}
+use mathlib.Core.List.{List, [], _∷_, _++_, map, flatMap, append-nil}
+use mathlib.Core.Bool.{Bool, true, false, not}
 use mathlib.Core.Logic.{_≢_}
 use native.Mathlib.Omega.{arith}
-use borrow.Author.Tests.{not-true, eq-eqb}
-use lib.ListN.{getD, take}
+use borrow.Author.Tests.{not-true, eq-eqb, lt-ltb}
+use lib.ListN.{getD, take, drop}
 use Rattle.numbers.proofs.Cases.{never}
 use Rattle.text.specs.Text.{ascii}
 use Rattle.text.specs.Digits.{bare}
-use Rattle.numbers.specs.declared.threshold.Threshold.{Threshold}
 use Rattle.numbers.specs.Rounding.{climbWithin, five, power, rounded, fittedTo}
 use Rattle.numerals.specs.Digits.{lead, rest, headIs, value}
 use Rattle.numerals.specs.Whole.{numberOf, behindPoint, factorOf}
 use Rattle.numerals.specs.Threshold.{afterPlus, afterSign, powerOf, judged as judgedNumeral, fraction, afterFraction, thresholdOf}
 use Rattle.numerals.specs.Writing.{scientific}
 use Rattle.settings.specs.Lists.{every, Each}
-use Rattle.settings.specs.Models.{defaults}
-use Rattle.settings.specs.Mnemonics.{sheet, known, name, same, found, recognised, answers}
+use Rattle.settings.specs.Models.{channels, defaults}
+use Rattle.settings.specs.Mnemonics.{sheet, known, name, same, found, recognised}
 use Rattle.settings.specs.Kinds.{storedKinds, kinds}
-use Rattle.settings.specs.Rows.{count, cells}
+use Rattle.settings.specs.Rows.{row, listed, count}
 use Rattle.settings.specs.declared.model.Model.{Model}
 use Rattle.settings.specs.declared.model.Model.the-variants.{Tpg361, Tpg362}
 use Rattle.settings.specs.declared.mnemonic.Setting.{Setting}
 use Rattle.settings.specs.declared.mnemonic.Setting.the-variants.{Uni, Fil, Cal, Dcd, Sp, Stored}
 use Rattle.settings.specs.declared.mnemonic.Mnemonic.{Mnemonic}
 use Rattle.settings.specs.declared.mnemonic.Mnemonic.the-variants.{Setting as Of}
+use Rattle.settings.specs.declared.rows.Row.{Row}
 use Rattle.settings.specs.declared.Settings.{Settings}
-use Rattle.settings.proofs.Lists.{each-map, every-each}
-use Rattle.settings.proofs.Sheets.{sheet-each}
+use Rattle.settings.proofs.Lists.{each-map, each-both, every-each}
+use Rattle.settings.proofs.Storing.{Holding}
+use Rattle.settings.proofs.Storing.Holding.{uni, fil}
+use Rattle.settings.proofs.Sheets.{sheet-holding, on-sheet, sheet-each}
 use Rattle.lines.specs.Splitting.{fields, joined}
 use Rattle.lines.specs.Fields.{limited}
 use Rattle.lines.specs.Judging.{readings, formed, valued, withFields, judged}
-use Rattle.lines.specs.Replies.{texts, settingText}
+use Rattle.lines.specs.Replies.{texts, settingText, lineEnd}
+use Rattle.lines.specs.declared.word.Word.{Word}
+use Rattle.lines.specs.declared.verdict.Verdict.{Verdict}
+use Rattle.lines.specs.declared.verdict.Verdict.the-variants.{Asks, Writes, Refused}
 use Rattle.ports.specs.Line.{grown}
 use Rattle.ports.specs.Hearing.{kindOf, concluded, asked, byKind, heard}
 use Rattle.shared.specs.Events.{written}
 use Rattle.shared.specs.Replies.{replyText}
+use Rattle.shared.specs.declared.Shared.{Shared}
 use Rattle.tpg.specs.States.{freshBox, Sound}
 use Rattle.tpg.specs.Steps.{eventText, next, sent, after}
 use Rattle.tpg.specs.declared.State.{State}
 use Rattle.tpg.proofs.Kept.{fresh-sound, after-sound, after-model}
-use Rattle.demands.specs.Wire.{ended}
-use Rattle.demands.specs.Demands.{Says, Becomes, Reads, Replies, boxModel, boxSettings, Boxes, SheetCopied, linesOf, NaksAll, BlindToLines, BlindToStates, Forgets}
+use Rattle.demands.specs.Wire.{Inner, lineIn, cr, ended, Ready, Way, sending, asOften, answered}
+use Rattle.demands.specs.Replies.{Says, Becomes, Reads, Replies}
+use Rattle.demands.specs.Sheets.{boxModel, boxSettings, Boxes, firstLine, copyOf, linesSent}
+use Rattle.demands.specs.Demands.{Meets, NaksAll, once, told, BlindToLines, BlindToStates, Forgets, SilentBut}
+use Rattle.demands.proofs.Spelling.{setting-characters}
+use Rattle.demands.proofs.Copying.{first-line, no-cr, some-channel}
 
 abbrev fresh : Model → State
 fresh model = freshBox model 0
@@ -54,42 +64,14 @@ alike model = let k = fresh-sound model 0 refl in record { first = k; second = k
 
 -- ---- a box that NAKs everything
 
--- demand 3, "all are accepted": already the first line of a fresh 362's own sheet
-pub naks-all : (says : Says) (becomes : Becomes) → SheetCopied says becomes → NaksAll says → ⊥
+-- demand 3, "All are accepted": already the first line of a fresh 362's own sheet
+pub naks-all : (says : Says) (becomes : Becomes) → Meets says becomes → NaksAll says → ⊥
 unfolding flatMap
-naks-all says becomes copied naks =
+naks-all says becomes meets naks =
     let a = fresh Tpg362 in
-    subst (Each (λ (b : ℕ). b ≢ 6)) (copied a a (alike Tpg362) .0) (naks a (linesOf a (sheet Tpg362))) .0 refl
+    subst (Each (λ (b : ℕ). b ≢ 6)) (meets .copied a a (alike Tpg362) cr cr .0) (naks a (linesSent cr (copyOf says cr a))) .0 refl
 
--- ---- one that always sends the same reply
-
--- the settings of a box are read as demand 2 says
-read : (says : Says) → Replies says → (s : State) → Sound s → Each (λ (x : Setting). Reads says s (Of x)) (sheet (boxModel s))
-read says replies s k = sheet-each (λ (m : Mnemonic). Reads says s m) (boxModel s) (each-map _ (λ (m : Mnemonic). Reads says s m) (λ m both. both .0) (known (boxModel s)) (replies s k))
-
--- a fresh 362 answers 4 for its unit and 2,2 for its filters
-pub blind-to-lines : (says : Says) → Replies says → BlindToLines says → ⊥
-unfolding answers known recognised found same replyText settingText bare
-blind-to-lines says replies blind =
-    let s = fresh Tpg362 in
-    let r = read says replies s (fresh-sound Tpg362 0 refl) in
-    let e : _≡_ {A = ℕ} 52 50 = ap (λ (t : List ℕ). getD t 3 0) (sym (r .0 refl) ∙ blind s (name (Of Uni)) (name (Of Fil)) ∙ r .1 .0 refl) in
-    omega (arith, e)
-
--- and 1 for its unit after the line UNI,1
-abbrev torr : State
-torr = after (fresh Tpg362) (ended (ascii "UNI,1"))
-
-pub blind-to-states : (says : Says) → Replies says → BlindToStates says → ⊥
-unfolding bare lead rest headIs value numberOf every known same found recognised answers storedKinds fields limited readings formed valued withFields judged settingText grown kindOf concluded asked byKind heard written replyText eventText next sent after
-blind-to-states says replies blind =
-    let s = fresh Tpg362 in
-    let k = fresh-sound Tpg362 0 refl in
-    let e : _≡_ {A = ℕ} 52 49 =
-    ap (λ (t : List ℕ). getD t 3 0) (sym (read says replies s k .0 refl) ∙ blind s torr (name (Of Uni)) ∙ read says replies torr (after-sound (ended (ascii "UNI,1")) s k) .0 refl) in
-    omega (arith, e)
-
--- ---- one that ACKs and stores nothing, or stores the first line of a sheet and only ACKs the others
+-- ---- boxes that differ
 
 -- for each setting fields that are not its default
 others : Setting → List String
@@ -102,7 +84,7 @@ others (Stored k) = getD ("1" ∷ "1" ∷ "1" ∷ "1" ∷ "2" ∷ "1" ∷ "1" �
 
 -- a box that was sent them
 changed : Model → Setting → State
-changed model x = after (fresh model) (ended (joined (name (Of x) ∷ take (count model x) (map ascii (others x)))))
+changed model x = after (fresh model) (ended cr (joined (name (Of x) ∷ take (count model x) (map ascii (others x)))))
 
 -- is not what it was
 moved : Model → Setting → Bool
@@ -127,24 +109,93 @@ changed-model : (model : Model) (x : Setting) → boxModel (changed model x) ≡
 unfolding changed
 changed-model model x = after-model _ (fresh model)
 
+-- what holds of each setting that was changed holds of the sheet
+each-moved : (P : Setting → Type 0) (model : Model) → ((x : Setting) → Holding x → moved model x ≡ true → P x) → Each P (sheet model)
+each-moved P model f = each-both Holding (λ (x : Setting). moved model x ≡ true) P f (sheet model) (sheet-holding model) (every-each (moved model) (sheet model) (all-moved model))
+
+-- texts that differ are not equal
+apart : (t u : List ℕ) → not (same t u) ≡ true → t ≢ u
+apart t u differs e = let d : same t u ≡ false = not-true (same t u) differs in let f : same t u ≡ true = ap (λ (l : List ℕ). same l u) e ∙ same-self u in never (cc)
+
+-- ---- one that always sends the same reply
+
+-- what is told of a setting is its text
+told-text : (says : Says) → Replies says → (s : State) → Sound s → (x : Setting) → Holding x → told says s (Of x) ≡ settingText (boxModel s) (boxSettings s) x ++ lineEnd
+unfolding asOften replyText
+told-text says replies s k x h =
+    let reads = each-map _ (λ (m : Mnemonic). Reads says s m) (λ m both. both .0) (known (boxModel s)) (replies s k) in
+    let text = settingText (boxModel s) (boxSettings s) x in
+    ap (drop 3) (on-sheet (λ (x : Setting). Reads says s (Of x)) (boxModel s) (sheet-each (λ (m : Mnemonic). Reads says s m) (boxModel s) reads) x h refl once tt)
+    ∙ rw (lt-ltb 0 (channels (boxModel s)) (some-channel (boxModel s))) (append-nil (text ++ lineEnd))
+
+-- a fresh 362 answers 4 for its unit and 2,2 for its filters
+pub blind-to-lines : (says : Says) (becomes : Becomes) → Meets says becomes → BlindToLines says → ⊥
+unfolding settingText bare
+blind-to-lines says becomes meets blind =
+    let s = fresh Tpg362 in
+    let k = fresh-sound Tpg362 0 refl in
+    let e : _≡_ {A = ℕ} 52 50 =
+    ap (λ (t : List ℕ). getD t 0 0) (sym (told-text says (meets .replies) s k Uni uni) ∙ blind s (Of Uni) (Of Fil) ∙ told-text says (meets .replies) s k Fil fil) in
+    omega (arith, e)
+
+-- a program that answers as 01 says tells a setting that was changed from one that was not
+abbrev Tells : Setting → Type 0
+Tells x = (says : Says) (becomes : Becomes) → Meets says becomes → BlindToStates says x → ⊥
+
+tells : (model : Model) (x : Setting) → Holding x → moved model x ≡ true → Tells x
+unfolding moved
+tells model x h differs says becomes meets blind =
+    let a = changed model x in
+    let b = fresh model in
+    let one = told-text says (meets .replies) a (changed-sound model x) x h in
+    let other = told-text says (meets .replies) b (fresh-sound model 0 refl) x h in
+    let line = settingText model (boxSettings a) x in
+    let own = settingText model (defaults model) x in
+    let equal : line ++ lineEnd ≡ own ++ lineEnd =
+    ap (λ (m : Model). settingText m (boxSettings a) x ++ lineEnd) (sym (changed-model model x)) ∙ sym one ∙ blind a b ∙ other in
+    apart line own differs
+    (sym (first-line line [] (no-cr line (setting-characters model (boxSettings a) x))) ∙ ap firstLine equal ∙ first-line own [] (no-cr own (setting-characters model (defaults model) x)))
+
+-- demand 2: whichever setting of the sheet it is
+pub blind-to-states : (model : Model) → Each Tells (sheet model)
+blind-to-states model = each-moved Tells model (tells model)
+
+-- ---- one that ACKs and stores nothing, or stores the first line of a sheet and only ACKs the others
+
 -- a program that copies sheets stores the setting
 abbrev Stores : Setting → Type 0
-Stores x = (says : Says) (becomes : Becomes) → SheetCopied says becomes → Forgets becomes x → ⊥
+Stores x = (says : Says) (becomes : Becomes) → Meets says becomes → Forgets says becomes x → ⊥
 
-stores : (model : Model) (x : Setting) → moved model x ≡ true → Stores x
+stores : (model : Model) (x : Setting) → Holding x → moved model x ≡ true → Stores x
 unfolding moved settingText
-stores model x m says becomes copied forgets =
+stores model x h differs says becomes meets forgets =
     let a = changed model x in
     let b = fresh model in
     let both : Boxes a b = record { first = changed-sound model x; second = fresh-sound model 0 refl; model = changed-model model x } in
-    let sent = linesOf a (sheet (boxModel a)) in
-    let equal : cells model (boxSettings a) x ≡ cells model (defaults model) x = ap (λ (s : Settings). cells model s x) (sym (copied a b both .1)) ∙ forgets b sent in
-    let text = settingText model (defaults model) x in
-    let found : same (settingText model (boxSettings a) x) text ≡ true =
-    ap (λ (cs : List Threshold). same (joined (texts (kinds model (Of x)) cs)) text) equal ∙ same-self text in
-    let differs = not-true (same (settingText model (boxSettings a) x) text) m in
-    never (cc)
+    let equal : row (boxSettings a) x ≡ row (defaults model) x = ap (λ (s : Settings). row s x) (sym (meets .copied a b both cr cr .1)) ∙ forgets a b both cr cr in
+    apart (settingText model (boxSettings a) x) (settingText model (defaults model) x) differs
+    (ap (λ (r : Row). joined (texts (kinds model (Of x)) (take (count model x) (listed r)))) equal)
 
 -- demand 3, "the settings are equal": whichever setting of the sheet it is that a program never stores
 pub forgets : (model : Model) → Each Stores (sheet model)
-forgets model = each-map (λ (x : Setting). moved model x ≡ true) Stores (stores model) (sheet model) (every-each (moved model) (sheet model) (all-moved model))
+forgets model = each-moved Stores model (stores model)
+
+-- ---- one that knows patterns, and sends nothing elsewhere
+
+-- for a line something is sent, ACK or NAK
+some-answer : (n : ℕ) (s : Shared) (error : Word) (v : Verdict) (front rest : List ℕ) → front ++ (answered n s error v ++ rest) ≢ []
+some-answer n s error (Asks m) [] rest e = never (cc)
+some-answer n s error (Writes m r) [] rest e = never (cc)
+some-answer n s error (Refused x) [] rest e = never (cc)
+some-answer n s error v (b ∷ front) rest e = never (cc)
+
+-- whatever came before and whatever comes behind it: every row of bytes with such a line in it would have to be listed
+pub silent-elsewhere : (says : Says) (becomes : Becomes) → Meets says becomes → (Listed : List ℕ → Type 0) → SilentBut Listed says
+    → (s : State) → Sound s → (front : List ℕ) (w : Way) → Ready (w .start) (becomes s front) → (bytes : List ℕ) → Each Inner bytes → (rest : List ℕ)
+    → (Listed (front ++ (sending w bytes ++ rest)) → ⊥) → ⊥
+silent-elsewhere says becomes meets Listed silent s k front w ready bytes inner rest other =
+    let now = becomes s front in
+    let sound = meets .keeps s k front .0 in
+    let line = meets .splits now sound (sending w bytes) rest .0 ∙ ap (λ (t : List ℕ). t ++ says (becomes now (sending w bytes)) rest) (meets .answers now sound w ready bytes inner) in
+    some-answer (w .enqs) (now .shared) (now .port .error) (judged (now .shared .model) (lineIn bytes)) (says s front) (says (becomes now (sending w bytes)) rest)
+    (sym (meets .splits s k front (sending w bytes ++ rest) .0 ∙ ap (λ (t : List ℕ). says s front ++ t) line) ∙ silent s (front ++ (sending w bytes ++ rest)) other)

@@ -1,18 +1,23 @@
 -- Demands 2 and 3 hold of the calls themselves, in whatever pieces a host hands its bytes over and whatever outputs it lends.
 use Prim.Native.Nat.{ℕ, suc, _*_}
-use mathlib.Core.Path.{_≡_, refl, sym, ap, _∙_}
-use mathlib.Core.List.{List, [], _∷_}
+use mathlib.Core.Path.{_≡_, refl, sym, ap, ap₂, _∙_}
+use mathlib.Core.List.{List, [], _∷_, _++_}
 use native.Mathlib.Omega.{arith}
-use lib.ListN.{length}
-use Rattle.settings.specs.Mnemonics.{known}
+use lib.ListN.{length, take}
+use Rattle.settings.specs.Mnemonics.{sheet, known}
 use Rattle.settings.specs.declared.mnemonic.Mnemonic.{Mnemonic}
 use Rattle.settings.proofs.Lists.{each-map}
 use Rattle.tpg.specs.Answers.{leastOutput}
 use Rattle.tpg.specs.States.{Sound}
 use Rattle.tpg.specs.Steps.{after, said}
 use Rattle.tpg.specs.declared.State.{State}
+use Rattle.tpg.proofs.Runs.{after-append, said-append}
+use Rattle.tpg.proofs.Kept.{after-sound, after-model}
 use Rattle.demands.specs.Turns.{Plan, saysOver, becomesOver}
-use Rattle.demands.specs.Demands.{Says, Becomes, Reads, WritesBack, boxModel, boxSettings, Meets}
+use Rattle.demands.specs.Wire.{End}
+use Rattle.demands.specs.Replies.{Says, Becomes, Reads, WritesBack}
+use Rattle.demands.specs.Sheets.{boxModel, boxSettings, sheetAsked, copyLines, copyOf, linesSent}
+use Rattle.demands.specs.Demands.{Meets}
 use Rattle.demands.proofs.Splitting.{split, one-turn}
 use Rattle.demands.proofs.Replying.{line-answered, mnemonics-answered}
 use Rattle.demands.proofs.Copying.{sheet-read, sheet-copied, sheet-cut, sheets-decide}
@@ -23,18 +28,43 @@ Agrees says becomes = (s : State) → Sound s → (bytes : List ℕ) → (says s
 
 agreed : (says : Says) (becomes : Becomes) → Agrees says becomes → Meets says becomes
 agreed says becomes g = record {
-  answers = (λ s k bytes inner. g s k _ .0 ∙ line-answered s k bytes inner);
+  answers = (λ s k w ready bytes inner. g s k _ .0 ∙ line-answered s k w ready bytes inner);
   replies = (λ s k. each-map (λ (m : Mnemonic). Reads said s m × WritesBack said s m) (λ (m : Mnemonic). Reads says s m × WritesBack says s m)
-      (λ m both. ((λ a. g s k _ .0 ∙ both .0 a), (λ l r t e. g s k _ .0 ∙ both .1 l r t e))) (known (boxModel s)) (mnemonics-answered s k));
-  read = (λ a k. (g a k _ .0 ∙ sheet-read a k .0, ap boxSettings (g a k _ .1) ∙ sheet-read a k .1));
-  copied = (λ a b both. let k = both .second in (g b k _ .0 ∙ sheet-copied a b both .0, ap boxSettings (g b k _ .1) ∙ sheet-copied a b both .1));
-  cut = (λ a b both n. let c = sheet-cut a b both n in let h = g b (both .second) _ in (h .0 ∙ c .0, rw (h .1) (c .1), rw (h .1) (c .2)));
-  decide = (λ a b both.
-      let d = sheets-decide a b both in
+      (λ m both. ((λ has w ready. g s k _ .0 ∙ both .0 has w ready), (λ w ready l r t e. g s k _ .0 ∙ both .1 w ready l r t e))) (known (boxModel s)) (mnemonics-answered s k));
+  splits = (λ s k xs ys.
+      let first = g s k xs in
+      let others = g (after s xs) (after-sound xs s k) ys in
+      let all = g s k (xs ++ ys) in (
+        all .0 ∙ said-append xs ys s ∙ sym (ap₂ (λ (t u : List ℕ). t ++ u) (first .0) (ap (λ (x : State). says x ys) (first .1) ∙ others .0)),
+        all .1 ∙ after-append xs ys s ∙ sym (ap (λ (x : State). becomes x ys) (first .1) ∙ others .1),
+      ));
+  keeps = (λ s k bytes. rw (g s k bytes .1) (after-sound bytes s k, after-model bytes s));
+  read = (λ a k e. (g a k _ .0 ∙ sheet-read a k e .0, ap boxSettings (g a k _ .1) ∙ sheet-read a k e .1));
+  copied = (λ a b both e f.
+      let sheet = g a (both .first) (sheetAsked e a) .0 in
+      let sent = linesSent f (copyOf said e a) in
+      let c = sheet-copied a b both e f in
+      let h = g b (both .second) sent in
+      rw (copy-same a e sheet) (
+        h .0 ∙ c .0,
+        ap boxSettings (h .1) ∙ c .1,
+        ap (λ (x : State). says x (sheetAsked e b)) (h .1) ∙ g (after b sent) (after-sound sent b (both .second)) (sheetAsked e b) .0 ∙ c .2 ∙ sym sheet,
+      ));
+  cut = (λ a b both e f n.
+      let sheet = g a (both .first) (sheetAsked e a) .0 in
+      let c = sheet-cut a b both e f n in
+      let h = g b (both .second) (linesSent f (take n (copyOf said e a))) in
+      rw (copy-same a e sheet) (h .0 ∙ c .0, rw (h .1) (c .1), rw (h .1) (c .2)));
+  decide = (λ a b both e f.
+      let d = sheets-decide a b both e f in
       let p = g a (both .first) _ .0 in
       let q = g b (both .second) _ .0 in
-      ((λ e. d .0 (sym p ∙ e ∙ q)), (λ e. p ∙ d .1 e ∙ sym q)));
+      ((λ same. d .0 (sym p ∙ same ∙ q)), (λ same. p ∙ d .1 same ∙ sym q)));
 }
+  where
+    -- the same bytes received make the same copy
+    copy-same : (a : State) (e : End) → says a (sheetAsked e a) ≡ said a (sheetAsked e a) → copyOf says e a ≡ copyOf said e a
+    copy-same a e = ap (copyLines (sheet (boxModel a)))
 
 -- the box, byte by byte
 pub bytes-meet : Meets said after

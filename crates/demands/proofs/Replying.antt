@@ -1,15 +1,14 @@
 -- Demand 2: each reply is what 01 gives, for every line and the ENQ behind it, and for every mnemonic read and written.
 use Prim.Native.Nat.{ℕ, zero, suc, _<_}
-use mathlib.Core.Path.{_≡_, refl, sym, ap, _∙_}
+use mathlib.Core.Path.{_≡_, refl, sym, ap, ap₂, _∙_}
 use mathlib.Core.List.{List, [], _∷_, _++_}
-use mathlib.Core.Bool.{true, _&&_}
+use mathlib.Core.Bool.{Bool, true, false, cond}
 use native.Mathlib.Omega.{arith}
-use borrow.Author.Tests.{ltb-true}
 use lib.ListN.{set, take}
 use lib.Dec.{ltb}
-use Rattle.numbers.proofs.Cases.{never, and-true}
+use Rattle.numbers.proofs.Cases.{never}
 use Rattle.settings.specs.Models.{channels}
-use Rattle.settings.specs.Mnemonics.{sheet, known, name, recognised, isKnown, channelOf, hasReply, answers}
+use Rattle.settings.specs.Mnemonics.{sheet, known, name, channelOf, hasReply}
 use Rattle.settings.specs.Kinds.{factor, kinds}
 use Rattle.settings.specs.Rows.{plain, pairRow, row, listed, number, count}
 use Rattle.settings.specs.Lists.{Each}
@@ -25,9 +24,11 @@ use Rattle.settings.proofs.Places.{fits-plain, row-places}
 use Rattle.settings.proofs.Storing.{Holding, mixed-front, stored-row, factor-row}
 use Rattle.settings.proofs.Sheets.{sheet-holding, few, known-each}
 use Rattle.settings.proofs.Keeping.{Fitting, fitting-canon}
+use Rattle.lines.specs.Words.{noError, gathered}
 use Rattle.lines.specs.Judging.{alone, judged}
 use Rattle.lines.specs.Replies.{settingText}
 use Rattle.lines.specs.declared.word.Word.{Word}
+use Rattle.lines.specs.declared.verdict.Fault.the-variants.{Hardware}
 use Rattle.lines.specs.declared.verdict.Verdict.{Verdict}
 use Rattle.lines.specs.declared.verdict.Verdict.the-variants.{Asks, Writes, Refused}
 use Rattle.lines.proofs.Accepted.{Spelt, all-spelt}
@@ -38,34 +39,47 @@ use Rattle.shared.specs.declared.Shared.{Shared}
 use Rattle.tpg.specs.States.{Sound}
 use Rattle.tpg.specs.Steps.{lineText, next, said}
 use Rattle.tpg.specs.declared.State.{State}
-use Rattle.demands.specs.Wire.{ack, lineIn, asking, selectedText, answered, writtenText}
-use Rattle.demands.specs.Demands.{Answers, Reads, WritesBack, Replies}
+use Rattle.demands.specs.Wire.{ack, nak, Inner, lineIn, ended, Start, onEmpty, afterEtx, begun, Ready, enquiries, asOften, selectedText, errorText, answered, writtenText}
+use Rattle.demands.specs.Replies.{Answers, Reads, WritesBack, Replies}
 use Rattle.demands.proofs.Ending.{choice, gathering, enqText}
-use Rattle.demands.proofs.Typing.{line-asked, anew-line, anew-shared, anew-said}
+use Rattle.demands.proofs.Typing.{line-enquired, anew-line, anew-shared, anew-said, empty-line}
 use Rattle.demands.proofs.Spelling.{typeable-inner, typeable-line, Short, names-short, name-typeable, name-judged}
 
 -- ---- every line
 
-selected-text : (s : Shared) (error : Word) (m : Mnemonic) → enqText s error (choice (Asks m)) ≡ selectedText s error m
-selected-text s error (Of x) = refl
-selected-text s error (Cf k) = refl
-selected-text s error (Asked q) = refl
-selected-text s error Com = refl
-selected-text s error Sav = refl
+-- texts that are the same for every error word are so as often as they are sent
+often-same : (n : ℕ) (f g : Word → List ℕ) → ((w : Word) → f w ≡ g w) → (error : Word) → asOften n f error ≡ asOften n g error
+unfolding asOften
+often-same zero f g same error = refl
+often-same (suc n) f g same error = ap₂ (λ (t u : List ℕ). t ++ u) (same error) (often-same n f g same noError)
 
-answered-text : (s : Shared) (error : Word) (v : Verdict) → lineText v ++ enqText (heard s v) (gathering error v) (choice v) ≡ answered s error v
-answered-text s error (Asks m) = ap (λ (t : List ℕ). ack ++ t) (selected-text s error m)
-answered-text s error (Writes m r) = ap (λ (t : List ℕ). ack ++ t) (selected-text (written s m r) error m)
-answered-text s error (Refused x) = refl
+selected-text : (s : Shared) (m : Mnemonic) (error : Word) → enqText s error (choice (Asks m)) ≡ selectedText s m error
+selected-text s (Of x) error = refl
+selected-text s (Cf k) error = refl
+selected-text s (Asked q) error = refl
+selected-text s Com error = refl
+selected-text s Sav error = refl
 
--- whatever came before: a line and an ENQ are answered by the verdict on the line
+answered-text : (n : ℕ) (s : Shared) (error : Word) (v : Verdict)
+    → lineText v ++ asOften n (λ (w : Word). enqText (heard s v) w (choice v)) (gathering error v) ≡ answered n s error v
+answered-text n s error (Asks m) = ap (λ (t : List ℕ). ack ++ t) (often-same n _ _ (selected-text s m) error)
+answered-text n s error (Writes m r) = ap (λ (t : List ℕ). ack ++ t) (often-same n _ _ (selected-text (written s m r) m) error)
+answered-text n s error (Refused x) = refl
+
+-- on an empty line, and with an ETX whatever came before: a line and its ENQs are answered by the verdict on the line
 pub line-answered : Answers said
-line-answered s k bytes inner =
-    let v = judged (s .shared .model) (lineIn bytes) in
-    let same = anew-shared s in
-    anew-said s (asking bytes) ∙ line-asked (next s 3) (anew-line s) bytes inner v (ap (λ (x : Shared). judged (x .model) (lineIn bytes)) same) .0
-    ∙ ap (λ (x : Shared). lineText v ++ enqText (heard x v) (gathering (s .port .error) v) (choice v)) same
-    ∙ answered-text (s .shared) (s .port .error) v
+line-answered s k w = by (w .start)
+  where
+    by : (start : Start) → Ready start s → (bytes : List ℕ) → Each Inner bytes
+        → said s (begun start (ended (w .end) bytes ++ enquiries (w .enqs))) ≡ answered (w .enqs) (s .shared) (s .port .error) (judged (s .shared .model) (lineIn bytes))
+    by onEmpty ready bytes inner =
+        line-enquired s (empty-line s k ready) bytes inner (w .end) (w .enqs)
+        ∙ answered-text (w .enqs) (s .shared) (s .port .error) (judged (s .shared .model) (lineIn bytes))
+    by afterEtx ready bytes inner =
+        let now = next s 3 in
+        anew-said s (ended (w .end) bytes ++ enquiries (w .enqs)) ∙ line-enquired now (anew-line s) bytes inner (w .end) (w .enqs)
+        ∙ answered-text (w .enqs) (now .shared) (s .port .error) (judged (now .shared .model) (lineIn bytes))
+        ∙ ap (λ (x : Shared). answered (w .enqs) x (s .port .error) (judged (x .model) (lineIn bytes))) (anew-shared s)
 
 -- ---- a mnemonic that is read
 
@@ -76,16 +90,20 @@ alone-asks (Asked q) h = refl
 alone-asks Com h = never (cc)
 alone-asks Sav h = never (cc)
 
+-- told where the model has its channel, refused where it has not
+read-text : (n : ℕ) (s : Shared) (error : Word) (m : Mnemonic) → hasReply m ≡ true → (there : Bool)
+    → answered n s error (cond there (alone m) (Refused Hardware)) ≡ cond there (ack ++ asOften n (λ (w : Word). replyText s w m) error) (nak ++ asOften n (errorText s) (gathered error Hardware))
+read-text n s error m has true =
+    rw (alone-asks m has) (ap (λ (t : List ℕ). ack ++ t) (often-same n (selectedText s m) (λ (w : Word). replyText s w m) (λ w. rw has) error))
+read-text n s error m has false = refl
+
 reads : (s : State) → Sound s → (m : Mnemonic) → Spelt (s .shared .model) m → Short (name m) → Reads said s m
-unfolding answers
-reads s k m sp short a =
+reads s k m sp short has w ready =
     let model = s .shared .model in
-    let b = and-true (isKnown (recognised model (name m))) (ltb (channelOf m) (channels model) && hasReply m) a .1 in
-    let c = and-true (ltb (channelOf m) (channels model)) (hasReply m) b in
-    let v : judged model (name m) ≡ Asks m = name-judged model m sp (ltb-true (channelOf m) (channels model) (c .0)) ∙ alone-asks m (c .1) in
     let t = name-typeable m short in
-    line-answered s k (name m) (typeable-inner (name m) t)
-    ∙ ap (answered (s .shared) (s .port .error)) (ap (judged model) (typeable-line (name m) t) ∙ v) ∙ rw (c .1)
+    line-answered s k w ready (name m) (typeable-inner (name m) t)
+    ∙ ap (answered (w .enqs) (s .shared) (s .port .error)) (ap (judged model) (typeable-line (name m) t) ∙ name-judged model m sp)
+    ∙ read-text (w .enqs) (s .shared) (s .port .error) m has (ltb (channelOf m) (channels model))
 
 -- ---- a line that writes it
 
@@ -98,12 +116,12 @@ take-set (suc n) (suc i) v (x ∷ l) = ap (λ (t : List _). x ∷ t) (take-set n
 module _ (s : State) (k : Sound s) where
   -- what the ENQ tells of a line that wrote is what it wrote
   Back : Mnemonic → Type 0
-  Back m = (r : Row) → Fitting (kinds (s .shared .model) m) r → selectedText (written (s .shared) m r) (s .port .error) m ≡ writtenText (s .shared) (s .port .error) m r
+  Back m = (r : Row) → Fitting (kinds (s .shared .model) m) r → (error : Word) → selectedText (written (s .shared) m r) m error ≡ writtenText (s .shared) m r error
 
   -- the cells of a setting are the line's
   setting-back : (x : Setting) → Holding x → Back (Of x)
   unfolding Back replyText written settingText
-  setting-back x h r f =
+  setting-back x h r f error =
       let m = s .shared .model in
       let b = s .shared .settings in
       rw (stored-row m b r (k .formed .shared .settings) h (fitting-canon m r h f), mixed-front (count m x) r (row b x) (few m x))
@@ -111,7 +129,7 @@ module _ (s : State) (k : Sound s) where
   -- of CAL's cells only the channel's own is
   factor-back : (c : ℕ) → c < 2 → Back (Cf c)
   unfolding Back replyText written settingText
-  factor-back c h r f =
+  factor-back c h r f error =
       let m = s .shared .model in
       let b = s .shared .settings in
       let fits = row-places (factor ∷ []) r (pairRow 0 0) f 0 (omega arith) in
@@ -120,15 +138,15 @@ module _ (s : State) (k : Sound s) where
 
   query-back : (q : Query) → Back (Asked q)
   unfolding Back replyText written
-  query-back q r f = refl
+  query-back q r f error = refl
 
   com-back : Back Com
   unfolding Back replyText written
-  com-back r f = refl
+  com-back r f error = refl
 
   sav-back : Back Sav
   unfolding Back replyText written
-  sav-back r f = refl
+  sav-back r f error = refl
 
   -- those of the sheet, and the others
   all-back : Each Back (known (s .shared .model))
@@ -164,8 +182,9 @@ module _ (s : State) (k : Sound s) where
 
   writes-back : (m : Mnemonic) → Back m → WritesBack said s m
   unfolding Back
-  writes-back m b bytes r inner e =
-      line-answered s k bytes inner ∙ ap (answered (s .shared) (s .port .error)) e ∙ ap (λ (x : List ℕ). ack ++ x) (b r (writes-fitting (s .shared .model) (lineIn bytes) m r e))
+  writes-back m b w ready bytes r inner e =
+      line-answered s k w ready bytes inner ∙ ap (answered (w .enqs) (s .shared) (s .port .error)) e
+      ∙ ap (λ (x : List ℕ). ack ++ x) (often-same (w .enqs) _ _ (b r (writes-fitting (s .shared .model) (lineIn bytes) m r e)) (s .port .error))
 
 -- every mnemonic that the model knows, read and written, in every state that a box can be in
 pub mnemonics-answered : Replies said

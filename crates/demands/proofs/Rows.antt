@@ -37,7 +37,7 @@ use Rattle.tpg.specs.Steps.{eventText, next, sent, after, said, taken}
 use Rattle.tpg.specs.Calls.{admits, roomed, roomedBytes, hosted, tickText, counted, afterTicks, ticksText, readingCall, cycleCall}
 use Rattle.tpg.specs.declared.State.{State}
 use Rattle.demands.specs.Calls.{Call, host, reading, ticks, cycle, outcome, bytes}
-use Rattle.demands.specs.Wire.{ack, nak, ended, asking}
+use Rattle.demands.specs.Wire.{ack, nak, cr, crLf, ended, enquiries}
 
 -- all that calls send, one after the other
 abbrev pub sends : State → List Call → List ℕ
@@ -56,17 +56,20 @@ raw bs = host bs room
 
 -- a line, one with CR LF, and one with an ENQ behind it
 abbrev line : String → Call
-line s = raw (ended (ascii s))
+line s = raw (ended cr (ascii s))
 
 abbrev windows : String → Call
-windows s = raw (ended (ascii s) ++ 10 ∷ [])
+windows s = raw (ended crLf (ascii s))
+
+abbrev asking : List ℕ → List ℕ
+asking l = ended cr l ++ enquiries 1
 
 abbrev asks : String → Call
 asks s = raw (asking (ascii s))
 
 -- an ENQ alone
 abbrev enq : Call
-enq = raw (5 ∷ [])
+enq = raw (enquiries 1)
 
 -- so many ticks
 abbrev waits : ℕ → Call
@@ -185,8 +188,8 @@ rows =
     (ack ++ ack ++ ack ++ ack ++ reply "0,+1.0000E+05" ++ ack ++ reply "1" ++ ack ++ reply "5,+1.5001E-02")
     -- AYT, and what a 361 has not
     ∷ on362 (asks "AYT" ∷ []) (ack ++ reply "TPG362,PTG28290,44990000,010100,010100")
-    ∷ on361 (asks "AYT" ∷ asks "PRX" ∷ asks "PR2" ∷ asks "ERA,3" ∷ [])
-    (ack ++ reply "TPG361,PTG28040,00000000,010100,010100" ++ ack ++ reply "5,+2.0000E-02" ++ refused "0100" ++ refused "0100")
+    ∷ on361 (asks "AYT" ∷ asks "PRX" ∷ asks "PR2" ∷ asks "CF2" ∷ asks "ERA,3" ∷ [])
+    (ack ++ reply "TPG361,PTG28040,00000000,010100,010100" ++ ack ++ reply "5,+2.0000E-02" ++ refused "0100" ++ refused "0100" ++ refused "0100")
     ∷ []
 
 pub rows-hold : Hold rows

@@ -1,13 +1,13 @@
 -- The lines of a sheet can be typed: names and written numbers are characters, and few enough.
-use Prim.Native.Nat.{ℕ, _≤_, _<_}
+use Prim.Native.Nat.{ℕ, _≤_}
 use Prim.Native.Char.{code}
-use mathlib.Core.Path.{_≡_, refl, ap}
+use mathlib.Core.Path.{_≡_, refl, ap, _∙_}
 use mathlib.Core.List.{List, [], _∷_}
-use mathlib.Core.Bool.{Bool, true, _&&_}
+use mathlib.Core.Bool.{Bool, true, cond, _&&_}
 use native.Mathlib.Omega.{arith}
 use borrow.Author.Tests.{leb-true, lt-ltb, ne-eqb}
 use lib.ListN.{length, length-append}
-use lib.Dec.{leb}
+use lib.Dec.{leb, ltb}
 use Rattle.numbers.specs.declared.threshold.Threshold.{Threshold}
 use Rattle.numbers.proofs.Cases.{and-true, ranged}
 use Rattle.settings.specs.Models.{channels}
@@ -23,11 +23,14 @@ use Rattle.settings.specs.declared.kinds.Kind.{Kind}
 use Rattle.settings.specs.declared.Settings.{Settings}
 use Rattle.settings.proofs.Lists.{each-map, each-append, every-each}
 use Rattle.lines.specs.Splitting.{joined}
-use Rattle.lines.specs.Judging.{alone, withFields, judged}
+use Rattle.lines.specs.Judging.{alone, withFields, parted, judged}
 use Rattle.lines.specs.Replies.{texts, settingText}
 use Rattle.lines.specs.Sheets.{lineOf}
 use Rattle.lines.proofs.ReadBack.{Written, each-written}
-use Rattle.lines.proofs.Accepted.{Spelt, line-fields}
+use Rattle.lines.specs.declared.verdict.Fault.the-variants.{Hardware}
+use Rattle.lines.specs.declared.verdict.Verdict.the-variants.{Refused}
+use Rattle.lines.proofs.Walking.{judged-parts}
+use Rattle.lines.proofs.Accepted.{Spelt, fields-one}
 use Rattle.ports.specs.Limits.{inRange}
 use Rattle.shared.proofs.Lengths.{setting-short}
 use Rattle.demands.specs.Wire.{Inner, undropped, isCharacter, lineIn}
@@ -127,6 +130,7 @@ line-typeable model s x h =
 
 -- ---- a name alone
 
-pub name-judged : (model : Model) (m : Mnemonic) → Spelt model m → channelOf m < channels model → judged model (name m) ≡ alone m
+-- "With no comma the line asks for the setting"; "PR2 or CF2 on a 361, 0100"
+pub name-judged : (model : Model) (m : Mnemonic) → Spelt model m → judged model (name m) ≡ cond (ltb (channelOf m) (channels model)) (alone m) (Refused Hardware)
 unfolding withFields
-name-judged model m sp h = line-fields model m sp [] h tt
+name-judged model m sp = judged-parts model (name m) ∙ ap (parted model) (fields-one (name m) (sp .plain)) ∙ rw (sp .back)

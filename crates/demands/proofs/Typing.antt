@@ -1,21 +1,23 @@
--- A line on the wire: its bytes one by one, good or bad, with its CR and the ENQ behind it, and an ETX before it.
-use Prim.Native.Nat.{ℕ, _+_, _≤_, _<_}
+-- A line on the wire: its bytes one by one, good or bad, with its end and the ENQs behind it, and an ETX before it.
+use Prim.Native.Nat.{ℕ, zero, suc, _+_, _≤_, _<_}
 use mathlib.Core.Path.{_≡_, refl, sym, ap, ap₂, subst, _∙_}
 use mathlib.Core.List.{List, [], _∷_, _++_, append-assoc, append-nil}
-use mathlib.Core.Bool.{true, false, cond, and-false}
+use mathlib.Core.Bool.{true, false, cond, not, and-false}
 use mathlib.Core.Logic.{⊎-elim}
 use native.Mathlib.Omega.{arith}
 use native.Mathlib.Numerals.{add-one}
-use borrow.Author.Tests.{lt-ltb, le-ltb, lt-leb, le-leb}
+use borrow.Author.Tests.{lt-ltb, le-ltb, lt-leb, le-leb, eqb-true, not-true}
 use lib.ListN.{length, length-set, length-append}
 use lib.Seq.{take-suc-set}
+use lib.Dec.{eqb}
 use Rattle.settings.specs.Lists.{every, Each}
 use Rattle.settings.proofs.Lists.{each-append, each-every}
-use Rattle.numbers.proofs.Cases.{below}
+use Rattle.numbers.proofs.Cases.{below, and-true}
+use Rattle.lines.specs.Words.{noError}
 use Rattle.lines.specs.Judging.{judged}
 use Rattle.lines.specs.declared.word.Word.{Word}
 use Rattle.lines.specs.declared.verdict.Verdict.{Verdict}
-use Rattle.ports.specs.Line.{spoilt, grown}
+use Rattle.ports.specs.Line.{spoilt, grown, isEmpty}
 use Rattle.ports.specs.Hearing.{withMark, settled}
 use Rattle.ports.specs.declared.Port.{Port}
 use Rattle.ports.specs.declared.Selection.{Selection}
@@ -27,11 +29,12 @@ use Rattle.ports.proofs.Kept.{inner-by}
 use Rattle.ports.proofs.Instances.{bad-stays}
 use Rattle.shared.specs.Events.{heard}
 use Rattle.shared.specs.declared.Shared.{Shared}
+use Rattle.tpg.specs.States.{Sound}
 use Rattle.tpg.specs.Steps.{lineText, eventText, acted, hearing, next, sent, after, said}
 use Rattle.tpg.specs.declared.State.{State}
 use Rattle.tpg.proofs.Runs.{after-append, said-append}
-use Rattle.demands.specs.Wire.{Inner, isDropped, undropped, isCharacter, isGood, lineIn, ended, asking, anew}
-use Rattle.demands.proofs.Ending.{Line, choice, gathering, marked-line, settled-line, Judged, Held, held-line, enqText, wordLeft, cr-judges, enq-replies, etx-empties}
+use Rattle.demands.specs.Wire.{Inner, isDropped, undropped, isCharacter, isGood, lineIn, End, cr, crLf, ended, anew, enquiries, asOften}
+use Rattle.demands.proofs.Ending.{Line, choice, gathering, marked-line, settled-line, Judged, Held, held-line, enqText, wordLeft, told-once, cr-judges, enq-replies, lf-nothing, etx-empties}
 
 -- ---- the bytes of a line
 
@@ -156,13 +159,17 @@ good-run (b ∷ bytes) s front {selection} {error} inner h c few =
     (below (length front) 80)))
     (λ d e. rw (d, spoilt-bad front b (undropped bytes) e) (bad-run bytes _ (inner .1) (record { bad = refl; chosen = h .chosen; word = h .word })))
 
--- ---- a line and its CR
+-- ---- a line and its end
 
 module _ (s : State) {selection : Selection} {error : Word} (empty : Line (s .port) [] selection error) (bytes : List ℕ) (inner : Each Inner bytes)
     (v : Verdict) (verdict : judged (s .shared .model) (lineIn bytes) ≡ v) where
-  pub line-judged : Judged (s .shared) error v (said s (ended bytes)) (after s (ended bytes))
+  -- what the box sends for the bytes and their end, and what it is then
+  abbrev Ended : End → Type 0
+  Ended e = Judged (s .shared) error v (said s (ended e bytes)) (after s (ended e bytes))
+
+  cr-judged : Ended cr
   unfolding after said
-  line-judged =
+  cr-judged =
       let t = good-run bytes s [] inner empty tt (omega arith) in
       let now = after s bytes in
       let j = cr-judges now (t .line) in
@@ -170,16 +177,58 @@ module _ (s : State) {selection : Selection} {error : Word} (empty : Line (s .po
       rw (said-append bytes (13 ∷ []) s, after-append bytes (13 ∷ []) s, t .silent, append-nil (sent now 13))
       (rw (same, t .shared) at j)
 
-  -- and the ENQ behind it
-  pub line-asked : (said s (asking bytes) ≡ lineText v ++ enqText (heard (s .shared) v) (gathering error v) (choice v))
-      × (after s (asking bytes) .shared ≡ heard (s .shared) v)
-      × Line (after s (asking bytes) .port) [] (choice v) (wordLeft (gathering error v) (choice v))
+  -- the LF adds nothing
+  lf-judged : Ended crLf
   unfolding after said
-  line-asked =
-      let j = line-judged in
-      let now = after s (ended bytes) in
+  lf-judged =
+      let now = after s (ended cr bytes) in
+      let f = lf-nothing now (cr-judged .line) in
+      let parts : ended crLf bytes ≡ ended cr bytes ++ 10 ∷ [] = sym (append-assoc bytes (13 ∷ []) (10 ∷ [])) in
+      rw (parts, said-append (ended cr bytes) (10 ∷ []) s, after-append (ended cr bytes) (10 ∷ []) s, f .0, append-nil (said s (ended cr bytes)))
+      (record { reply = cr-judged .reply; shared = f .1 ∙ cr-judged .shared; line = f .2 })
+
+  pub line-judged : (e : End) → Ended e
+  line-judged cr = cr-judged
+  line-judged crLf = lf-judged
+
+  -- and one ENQ behind it
+  pub line-asked : (e : End) → (said s (ended e bytes ++ enquiries 1) ≡ lineText v ++ enqText (heard (s .shared) v) (gathering error v) (choice v))
+      × (after s (ended e bytes ++ enquiries 1) .shared ≡ heard (s .shared) v)
+      × Line (after s (ended e bytes ++ enquiries 1) .port) [] (choice v) (wordLeft (gathering error v) (choice v))
+  unfolding after said
+  line-asked e =
+      let j = line-judged e in
+      let now = after s (ended e bytes) in
       let r = enq-replies now (j .line) in
-      rw (said-append (ended bytes) (5 ∷ []) s, after-append (ended bytes) (5 ∷ []) s, append-nil (sent now 5), r .reply, j .reply, r .shared, j .shared) (refl, refl, r .line)
+      rw (said-append (ended e bytes) (5 ∷ []) s, after-append (ended e bytes) (5 ∷ []) s, append-nil (sent now 5), r .reply, j .reply, r .shared, j .shared) (refl, refl, r .line)
+
+-- ---- so many ENQs
+
+-- only the first can tell the error word
+once-told : (n : ℕ) (s : Shared) (error : Word) (x : Selection) → asOften n (λ (w : Word). enqText s w x) (wordLeft error x) ≡ asOften n (λ (w : Word). enqText s w x) noError
+unfolding asOften
+once-told zero s error x = refl
+once-told (suc n) s error x = ap (λ (t : List ℕ). t ++ asOften n (λ (w : Word). enqText s w x) noError) (told-once s error x)
+
+enqs-replied : (n : ℕ) (s : State) {x : Selection} {error : Word} → Line (s .port) [] x error → said s (enquiries n) ≡ asOften n (λ (w : Word). enqText (s .shared) w x) error
+unfolding said asOften
+enqs-replied zero s h = refl
+enqs-replied (suc n) s {x} {error} h =
+    let r = enq-replies s h in
+    ap₂ (λ (t u : List ℕ). t ++ u) (r .reply)
+    (enqs-replied n (next s 5) (r .line) ∙ ap (λ (t : Shared). asOften n (λ (w : Word). enqText t w x) (wordLeft error x)) (r .shared) ∙ once-told n (s .shared) error x)
+
+-- behind a line
+pub line-enquired : (s : State) {selection : Selection} {error : Word} → Line (s .port) [] selection error → (bytes : List ℕ) → Each Inner bytes → (e : End) (n : ℕ)
+    → let v = judged (s .shared .model) (lineIn bytes) in
+    said s (ended e bytes ++ enquiries n) ≡ lineText v ++ asOften n (λ (w : Word). enqText (heard (s .shared) v) w (choice v)) (gathering error v)
+line-enquired s {error = error} empty bytes inner e n =
+    let v = judged (s .shared .model) (lineIn bytes) in
+    let j = line-judged s empty bytes inner v refl e in
+    said-append (ended e bytes) (enquiries n) s
+    ∙ ap₂ (λ (t u : List ℕ). t ++ u) (j .reply)
+    (enqs-replied n (after s (ended e bytes)) (j .line)
+    ∙ ap (λ (t : Shared). asOften n (λ (w : Word). enqText t w (choice v)) (gathering error v)) (j .shared))
 
 -- ---- an ETX first
 
@@ -196,3 +245,11 @@ anew-said s bytes = rw (etx-empties s .0)
 pub anew-after : (s : State) (bytes : List ℕ) → after s (anew bytes) ≡ after (next s 3) bytes
 unfolding after
 anew-after s bytes = refl
+
+-- a line that is empty already
+pub empty-line : (s : State) → Sound s → isEmpty (s .port) ≡ true → Line (s .port) [] (s .port .selection) (s .port .error)
+empty-line s k e =
+    let p = s .port in
+    let b = and-true (not (p .bad)) (eqb (p .len) 0) e in
+    let none : p .len ≡ 0 = eqb-true (p .len) 0 (b .1) in
+    record { good = not-true (p .bad) (b .0); count = none; text = rw none; places = k .formed .port .line; chosen = refl; word = refl }

@@ -7,12 +7,13 @@ use Rattle.gauges.specs.Readings.{withinLimits}
 use Rattle.gauges.specs.declared.reading.Reading.{Reading}
 use Rattle.tpg.specs.Answers.{leastOutput}
 use Rattle.tpg.specs.States.{stateWithin}
-use Rattle.tpg.specs.Calls.{hostCall, hostBytes, tickCall, tickBytes, ticksCall, ticksBytes, isChannel, readingCall, cycleCall}
+use Rattle.tpg.specs.Calls.{byteCall, byteBytes, hostCall, hostBytes, tickCall, tickBytes, ticksCall, ticksBytes, isChannel, readingCall, cycleCall}
 use Rattle.tpg.specs.declared.State.{State}
 use Rattle.tpg.specs.declared.answers.Outcome.{Outcome}
 
 -- "take host bytes, take a gauge reading, take one tick of 100 ms, power cycle"; where an output is lent, its length comes last
 pub data Call : Type 0 where
+  byte : ℕ → ℕ → Call
   host : List ℕ → ℕ → Call
   reading : ℕ → Reading → Call
   tick : ℕ → Call
@@ -21,6 +22,7 @@ pub data Call : Type 0 where
 
 -- what the contract of the call promises
 abbrev pub outcome : State → Call → Outcome
+outcome s (byte b room) = byteCall s b room
 outcome s (host input room) = hostCall s input room
 outcome s (reading channel r) = readingCall s channel r
 outcome s (tick room) = tickCall s room
@@ -29,6 +31,7 @@ outcome s cycle = cycleCall s
 
 -- and the bytes that it sends
 abbrev pub bytes : State → Call → List ℕ
+bytes s (byte b room) = byteBytes s b room
 bytes s (host input room) = hostBytes s input room
 bytes s (reading channel r) = []
 bytes s (tick room) = tickBytes s room
@@ -45,6 +48,7 @@ row number given = record { number = number; given = given }
 
 -- "the state handed in breaks a limit below", "output shorter than 64 bytes", "channel not on the model", "reading outside its limits"
 abbrev pub refusals : State → Call → List Refusal
+refusals s (byte b room) = row 1 (not (stateWithin s)) ∷ row 3 (ltb room leastOutput) ∷ []
 refusals s (host input room) = row 1 (not (stateWithin s)) ∷ row 3 (ltb room leastOutput) ∷ []
 refusals s (reading channel r) =
     row 1 (not (stateWithin s)) ∷ row 4 (not (isChannel (s .shared .model) channel)) ∷ row 5 (not (withinLimits r)) ∷ []

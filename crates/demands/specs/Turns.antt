@@ -1,9 +1,12 @@
 -- Host bytes handed over in pieces (01, "Answer numbers of the calls": "Taking host bytes answers how many were taken and written").
-use Prim.Native.Nat.{ℕ}
+use Prim.Native.Nat.{ℕ, _+_, _-_}
 use mathlib.Core.Path.{_≡_}
 use mathlib.Core.List.{List, [], _∷_, _++_}
+use mathlib.Core.Bool.{cond}
+use lib.Dec.{eqb}
 use lib.ListN.{take, drop}
-use Rattle.tpg.specs.Calls.{hostCall, hostBytes}
+use Rattle.tpg.specs.Answers.{number, answer, handed}
+use Rattle.tpg.specs.Calls.{byteCall, byteBytes, hostCall, hostBytes}
 use Rattle.tpg.specs.States.{Sound}
 use Rattle.tpg.specs.declared.State.{State}
 use Rattle.tpg.specs.declared.answers.Outcome.{Outcome}
@@ -47,3 +50,21 @@ saysOver p s bytes = received s bytes (p .turns s bytes)
 
 abbrev pub becomesOver : Plan → State → List ℕ → State
 becomesOver p s bytes = reached s bytes (p .turns s bytes)
+
+-- two calls as one: the state of the second, and the counts of both
+abbrev pub both : Outcome → Outcome → Outcome
+both o p = record { answer = p .answer; state = p .state; taken = o .taken + p .taken; written = o .written + p .written }
+
+-- bytes taken one by one, each into what is left of the output, until one is refused
+unfoldable pub oneByOne : State → List ℕ → ℕ → Outcome
+oneByOne s [] room = handed (answer 0) s
+oneByOne s (b ∷ bs) room =
+    let o = byteCall s b room in
+    cond (eqb (number (o .answer)) 0) (both o (oneByOne (o .state) bs (room - o .written))) (handed (answer 0) s)
+
+-- and what they send
+unfoldable pub sentOneByOne : State → List ℕ → ℕ → List ℕ
+sentOneByOne s [] room = []
+sentOneByOne s (b ∷ bs) room =
+    let o = byteCall s b room in
+    byteBytes s b room ++ cond (eqb (number (o .answer)) 0) (sentOneByOne (o .state) bs (room - o .written)) []

@@ -1,12 +1,16 @@
--- Lines, replies and sheets as bytes on the wire (01, "Bytes from the host" and "What the promises have to decide").
-use Prim.Native.Nat.{ℕ}
+-- Lines and replies as bytes on the wire (01, "Bytes from the host"; 000, "Transmission protocol" and "Reception protocol").
+use Prim.Native.Nat.{ℕ, zero, suc, _+_}
+use Prim.Native.Char.{code}
+use mathlib.Core.Path.{_≡_}
 use mathlib.Core.List.{List, [], _∷_, _++_, flatMap}
-use mathlib.Core.Bool.{Bool, cond, _&&_, _||_}
+use mathlib.Core.Bool.{Bool, true, cond, _&&_, _||_}
 use mathlib.Core.Logic.{_≢_}
 use lib.Dec.{eqb, ltb, leb}
-use lib.ListN.{length, set, take}
+use lib.ListN.{length, set, take, drop, replicate}
+use Rattle.text.specs.Spans.{until}
 use Rattle.settings.specs.Lists.{every}
-use Rattle.settings.specs.Mnemonics.{name, hasReply}
+use Rattle.settings.specs.Models.{channels}
+use Rattle.settings.specs.Mnemonics.{name, hasReply, channelOf}
 use Rattle.settings.specs.Kinds.{kinds}
 use Rattle.settings.specs.Rows.{listed, count, cells}
 use Rattle.settings.specs.declared.model.Model.{Model}
@@ -18,15 +22,17 @@ use Rattle.settings.specs.declared.mnemonic.Query.the-variants.{Err}
 use Rattle.settings.specs.declared.rows.Row.{Row}
 use Rattle.settings.specs.declared.Settings.{Settings}
 use Rattle.lines.specs.Splitting.{joined}
-use Rattle.lines.specs.Words.{gathered}
+use Rattle.lines.specs.Words.{noError, gathered}
 use Rattle.lines.specs.Replies.{texts, settingText, lineEnd}
-use Rattle.lines.specs.Sheets.{lineOf}
 use Rattle.lines.specs.declared.word.Word.{Word}
+use Rattle.lines.specs.declared.verdict.Fault.the-variants.{Hardware}
 use Rattle.lines.specs.declared.verdict.Verdict.{Verdict}
 use Rattle.lines.specs.declared.verdict.Verdict.the-variants.{Asks, Writes, Refused}
+use Rattle.ports.specs.Line.{isEmpty}
 use Rattle.shared.specs.Events.{written}
 use Rattle.shared.specs.Replies.{replyText}
 use Rattle.shared.specs.declared.Shared.{Shared}
+use Rattle.tpg.specs.declared.State.{State}
 
 -- "sends ACK CR LF", "sends NAK CR LF"
 abbrev pub ack : List ℕ
@@ -34,6 +40,8 @@ ack = 6 ∷ lineEnd
 
 abbrev pub nak : List ℕ
 nak = 21 ∷ lineEnd
+
+-- ---- the line that bytes make
 
 -- the bytes that a line is made of: all but the three that end or drop one, CR, ETX and ENQ
 abbrev pub Inner : ℕ → Type 0
@@ -60,55 +68,81 @@ isGood l = every isCharacter l && leb (length l) 80
 abbrev pub lineIn : List ℕ → List ℕ
 lineIn bytes = cond (isGood (undropped bytes)) (undropped bytes) []
 
--- bytes, and "CR ends a line"
-abbrev pub ended : List ℕ → List ℕ
-ended bytes = bytes ++ (13 ∷ [])
+-- ---- how a host sends a line
 
--- these, and "ENQ on an empty line"
-abbrev pub asking : List ℕ → List ℕ
-asking bytes = ended bytes ++ (5 ∷ [])
+-- 000: "Mnemonics [and parameters] <CR>[<LF>]", what stands in brackets being optional
+pub data End : Type 0 where
+  cr : End
+  crLf : End
+
+abbrev pub endBytes : End → List ℕ
+endBytes cr = 13 ∷ []
+endBytes crLf = lineEnd
+
+-- bytes, and "CR ends a line"
+abbrev pub ended : End → List ℕ → List ℕ
+ended e bytes = bytes ++ endBytes e
 
 -- "ETX empties the line, a bad one too, clears the selection"
 abbrev pub anew : List ℕ → List ℕ
 anew bytes = 3 ∷ bytes
 
--- ENQ after an accepted line: "the selected mnemonic's reply"; "after COM and SAV the selection is none", so it "sends the error word"
-abbrev pub selectedText : Shared → Word → Mnemonic → List ℕ
-selectedText s error m = cond (hasReply m) (replyText s error m) (replyText s error (Asked Err))
+-- on a line that is empty already, or with an ETX whatever came before
+pub data Start : Type 0 where
+  onEmpty : Start
+  afterEtx : Start
 
--- what comes back for a line and the ENQ behind it
-abbrev pub answered : Shared → Word → Verdict → List ℕ
-answered s error (Asks m) = ack ++ selectedText s error m
-answered s error (Writes m r) = ack ++ selectedText (written s m r) error m
-answered s error (Refused x) = nak ++ replyText s (gathered error x) (Asked Err)
+abbrev pub begun : Start → List ℕ → List ℕ
+begun onEmpty bytes = bytes
+begun afterEtx bytes = anew bytes
+
+abbrev pub Ready : Start → State → Type 0
+Ready onEmpty s = isEmpty (s .port) ≡ true
+Ready afterEtx s = Unit {0}
+
+-- a way of sending a line: how it begins and ends, and how many ENQs come behind it
+pub record Way : Type 0 where
+  pub start : Start
+  pub end : End
+  pub enqs : ℕ
+
+abbrev pub enquiries : ℕ → List ℕ
+enquiries n = replicate n 5
+
+abbrev pub sending : Way → List ℕ → List ℕ
+sending w bytes = begun (w .start) (ended (w .end) bytes ++ enquiries (w .enqs))
+
+-- ---- what comes back
+
+-- 000: "Additional strings .. are read out by repetitive transmission of <ENQ>"; the error word is sent once, "then it is 0000"
+unfoldable pub asOften : ℕ → (Word → List ℕ) → Word → List ℕ
+asOften zero text error = []
+asOften (suc n) text error = text error ++ asOften n text noError
+
+-- ENQ after an accepted line: "the selected mnemonic's reply"; "after COM and SAV the selection is none", so it "sends the error word"
+abbrev pub selectedText : Shared → Mnemonic → Word → List ℕ
+selectedText s m error = cond (hasReply m) (replyText s error m) (replyText s error (Asked Err))
+
+-- ENQ after a refused one, which "clears the selection"
+abbrev pub errorText : Shared → Word → List ℕ
+errorText s error = replyText s error (Asked Err)
+
+-- what comes back for a line and so many ENQs behind it
+abbrev pub answered : ℕ → Shared → Word → Verdict → List ℕ
+answered n s error (Asks m) = ack ++ asOften n (selectedText s m) error
+answered n s error (Writes m r) = ack ++ asOften n (selectedText (written s m r) m) error
+answered n s error (Refused x) = nak ++ asOften n (errorText s) (gathered error x)
+
+-- for a mnemonic alone that has a reply: "PR2 or CF2 on a 361, 0100", and any other is told
+abbrev pub readText : ℕ → Shared → Word → Mnemonic → List ℕ
+readText n s error m =
+    cond (ltb (channelOf m) (channels (s .model))) (ack ++ asOften n (λ (w : Word). replyText s w m) error) (nak ++ asOften n (errorText s) (gathered error Hardware))
 
 -- what the ENQ tells after a line that wrote: the line's own values; "CFx takes one factor and answers one per channel"; a mnemonic without
 -- fields has nothing to write
-abbrev pub writtenText : Shared → Word → Mnemonic → Row → List ℕ
-writtenText s error (Of x) r = joined (texts (kinds (s .model) (Of x)) (take (count (s .model) x) (listed r))) ++ lineEnd
-writtenText s error (Cf k) r = joined (texts (kinds (s .model) (Of Cal)) (set (cells (s .model) (s .settings) Cal) k (r .first))) ++ lineEnd
-writtenText s error (Asked q) r = replyText s error (Asked q)
-writtenText s error Com r = replyText s error (Asked Err)
-writtenText s error Sav r = replyText s error (Asked Err)
-
--- a sheet is read: an ETX, and each mnemonic with CR and ENQ
-abbrev pub questions : List Setting → List ℕ
-questions = flatMap (λ (x : Setting). asking (name (Of x)))
-
-abbrev pub inquiries : List Setting → List ℕ
-inquiries xs = anew (questions xs)
-
--- what comes back: an ACK and the reply of each
-abbrev pub replies : Model → Settings → List Setting → List ℕ
-replies model s = flatMap (λ (x : Setting). ack ++ (settingText model s x ++ lineEnd))
-
--- a sheet is sent: an ETX, and each mnemonic, a comma and its reply, with CR
-abbrev pub orders : Model → Settings → List Setting → List ℕ
-orders model s = flatMap (λ (x : Setting). ended (lineOf model s x))
-
-abbrev pub commands : Model → Settings → List Setting → List ℕ
-commands model s xs = anew (orders model s xs)
-
--- "all are accepted": an ACK for each
-abbrev pub acks : List Setting → List ℕ
-acks = flatMap (λ (x : Setting). ack)
+abbrev pub writtenText : Shared → Mnemonic → Row → Word → List ℕ
+writtenText s (Of x) r error = joined (texts (kinds (s .model) (Of x)) (take (count (s .model) x) (listed r))) ++ lineEnd
+writtenText s (Cf k) r error = joined (texts (kinds (s .model) (Of Cal)) (set (cells (s .model) (s .settings) Cal) k (r .first))) ++ lineEnd
+writtenText s (Asked q) r error = replyText s error (Asked q)
+writtenText s Com r error = errorText s error
+writtenText s Sav r error = errorText s error

@@ -16,7 +16,7 @@ use Rattle.settings.specs.declared.Settings.{Settings}
 use Rattle.settings.specs.Lists.{Each}
 use Rattle.settings.proofs.Lists.{each-both, each-take, each-drop, map-each}
 use Rattle.settings.proofs.Storing.{Holding, mixed-front, stored-row, stored-others, stored-shaped, upto-three}
-use Rattle.settings.proofs.Sheets.{sheet-holding, on-sheet, Distinct, sheet-distinct, distinct-cut, distinct-take, few, sheet-decides}
+use Rattle.settings.proofs.Sheets.{sheet-holding, on-sheet, Distinct, sheet-distinct, distinct-cut, distinct-take, few, cells-row, sheet-decides}
 use Rattle.settings.proofs.Keeping.{fitting-canon}
 use Rattle.lines.specs.Judging.{rowOf, judged, effect}
 use Rattle.lines.specs.Replies.{settingText}
@@ -68,14 +68,14 @@ module _ (model : Model) (a : Settings) where
           let c = fitting-canon model (sent x) h (writes-fitting model (lineOf model a x) (Of x) (sent x) (line-accepted h)) in
           rw (line-accepted h, stored-row model b (sent x) sh h c) (mixed-front (count model x) (sent x) (row b x) (few model x) ∙ sent-cells x)
 
-      line-others : {y : Setting} → Holding y → y ≢ x → cells model (next b x) y ≡ cells model b y
-      line-others g d = rw (line-accepted h, stored-others model b (sent x) h g d)
+      line-others : {y : Setting} → Holding y → y ≢ x → row (next b x) y ≡ row b y
+      line-others g d = rw (line-accepted h) (stored-others model b (sent x) h g d)
 
     -- ---- lines of any settings
 
     -- what is not named stays as it was
     pub copied-others : (xs : List Setting) (b : Settings) → Each Holding xs → {y : Setting} → Holding y → Each (λ x. y ≢ x) xs
-        → cells model (after model b (map (lineOf model a) xs)) y ≡ cells model b y
+        → row (after model b (map (lineOf model a) xs)) y ≡ row b y
     copied-others [] b h g d = refl
     copied-others (x ∷ xs) b h g d = copied-others xs (next b x) (h .1) g (d .1) ∙ line-others b (h .0) g (d .0)
 
@@ -84,7 +84,7 @@ module _ (model : Model) (a : Settings) where
         → Each (λ x. cells model (after model b (map (lineOf model a) xs)) x ≡ cells model a x) xs
     copied-named [] b h d sh = tt
     copied-named (x ∷ xs) b h d sh =
-        (copied-others xs (next b x) (h .1) (h .0) (d .0) ∙ line-named b (h .0) sh, copied-named xs (next b x) (h .1) (d .1) (line-shaped b (h .0) sh))
+        (ap (λ (r : Row). take (count model x) (listed r)) (copied-others xs (next b x) (h .1) (h .0) (d .0)) ∙ line-named b (h .0) sh, copied-named xs (next b x) (h .1) (d .1) (line-shaped b (h .0) sh))
 
 -- ---- the sheet
 
@@ -97,15 +97,18 @@ module _ (model : Model) (a b : Settings) where
     cut-holding : (n : ℕ) → Each Holding (take n (sheet model))
     cut-holding n = each-take Holding n (sheet model) (sheet-holding model)
 
-    -- cut after n lines, the settings named so far are the first box's
-    pub cut-named : (n : ℕ) → Each (λ x. cells model (afterLines n) x ≡ cells model a x) (take n (sheet model))
+    -- cut after n lines, the settings named so far are the first box's, in all their cells
+    pub cut-named : (n : ℕ) → Each (λ x. row (afterLines n) x ≡ row a x) (take n (sheet model))
     cut-named n =
-        copied-named model a wa (take n (sheet model)) b (cut-holding n) (distinct-take n (sheet model) (sheet-distinct model)) sb
+        let named = take n (sheet model) in
+        each-both Holding (λ x. cells model (afterLines n) x ≡ cells model a x) (λ x. row (afterLines n) x ≡ row a x)
+        (cells-row model (afterLines n) a (after-within model (map (lineOf model a) named) b sb wb) wa) named (cut-holding n)
+        (copied-named model a wa named b (cut-holding n) (distinct-take n (sheet model) (sheet-distinct model)) sb)
 
     -- the rest are the second box's own
-    pub cut-others : (n : ℕ) → Each (λ x. cells model (afterLines n) x ≡ cells model b x) (drop n (sheet model))
+    pub cut-others : (n : ℕ) → Each (λ x. row (afterLines n) x ≡ row b x) (drop n (sheet model))
     cut-others n =
-        each-both Holding (λ y. Each (λ x. y ≢ x) (take n (sheet model))) (λ x. cells model (afterLines n) x ≡ cells model b x)
+        each-both Holding (λ y. Each (λ x. y ≢ x) (take n (sheet model))) (λ x. row (afterLines n) x ≡ row b x)
         (λ y. copied-others model a wa (take n (sheet model)) b (cut-holding n))
         (drop n (sheet model)) (each-drop Holding n (sheet model) (sheet-holding model)) (distinct-cut n (sheet model) (sheet-distinct model))
 
@@ -113,7 +116,7 @@ module _ (model : Model) (a b : Settings) where
     pub whole-copy : after model b (map (lineOf model a) (sheet model)) ≡ a
     whole-copy =
         let lines = map (lineOf model a) (sheet model) in
-        sheet-decides model (after model b lines) a (after-shaped model lines b sb) sa (after-within model lines b sb wb) wa .0
+        sheet-decides model (after model b lines) a (after-within model lines b sb wb) wa (after-shaped model lines b sb) sa .0
         (copied-named model a wa (sheet model) b (sheet-holding model) (sheet-distinct model) sb)
 
     -- two boxes give equal sheets exactly when their settings are equal
@@ -127,6 +130,6 @@ module _ (model : Model) (a b : Settings) where
 
         forth : map (settingText model a) (sheet model) ≡ map (settingText model b) (sheet model) → a ≡ b
         forth e =
-            sheet-decides model a b sa sb wa wb .0
+            sheet-decides model a b wa wb sa sb .0
             (each-both Holding (λ x. settingText model a x ≡ settingText model b x) (λ x. cells model a x ≡ cells model b x) same-cells
             (sheet model) (sheet-holding model) (map-each (settingText model a) (settingText model b) (sheet model) e))

@@ -168,21 +168,24 @@ taken : (n i : ℕ) (r q : Row) → take n (listed r) ≡ take n (listed q) → 
 taken n i r q e h =
     sym (getD-take n (listed r) i (plain 0) h) ∙ ap (λ (l : List Threshold). getD l i (plain 0)) e ∙ getD-take n (listed q) i (plain 0) h
 
--- law (d) over a model's sheet: settings are equal exactly when their cells agree; where the model has no field both have the default
-pub sheet-decides : (model : Model) (a b : Settings) → Shaped a → Shaped b → within model a ≡ true → within model b ≡ true
-    → Each (λ x. cells model a x ≡ cells model b x) (sheet model) ↔ (a ≡ b)
-sheet-decides model a b sa sb wa wb =
-    ((λ e. rows-decide a b sa sb (agree e)), (λ e. each-all _ (λ x. ap (λ (s : Settings). cells model s x) e) (sheet model)))
-  where
-    agree : Each (λ x. cells model a x ≡ cells model b x) (sheet model) → (x : Setting) → Holding x → row a x ≡ row b x
-    agree e x h =
-        let ks = kinds model (Of x) in
-        let d = row (defaults model) x in
-        rows-same (row a x) (row b x) (λ i l.
-        same-placed (ltb i (length ks)) (getD ks i Level) (cell (row a x) i) (cell (row b x) i) (cell d i)
-        (row-places ks (row a x) d (within-rows model a wa x h) i l)
-        (row-places ks (row b x) d (within-rows model b wb x h) i l)
-        (λ t. taken (count model x) i (row a x) (row b x) (on-sheet (λ y. cells model a y ≡ cells model b y) model e x h) (ltb-true i (count model x) t)))
+module _ (model : Model) (a b : Settings) (wa : within model a ≡ true) (wb : within model b ≡ true) where
+  -- where the model has no field both have the default, so the cells that it has decide a whole row
+  pub cells-row : (x : Setting) → Holding x → cells model a x ≡ cells model b x → row a x ≡ row b x
+  cells-row x h e =
+      let ks = kinds model (Of x) in
+      let d = row (defaults model) x in
+      rows-same (row a x) (row b x) (λ i l.
+      same-placed (ltb i (length ks)) (getD ks i Level) (cell (row a x) i) (cell (row b x) i) (cell d i)
+      (row-places ks (row a x) d (within-rows model a wa x h) i l)
+      (row-places ks (row b x) d (within-rows model b wb x h) i l)
+      (λ t. taken (count model x) i (row a x) (row b x) e (ltb-true i (count model x) t)))
+
+  -- law (d) over a model's sheet: settings are equal exactly when their cells agree
+  pub sheet-decides : Shaped a → Shaped b → Each (λ x. cells model a x ≡ cells model b x) (sheet model) ↔ (a ≡ b)
+  sheet-decides sa sb = (
+    (λ e. rows-decide a b sa sb (λ x h. cells-row x h (on-sheet (λ y. cells model a y ≡ cells model b y) model e x h))),
+    (λ e. each-all _ (λ x. ap (λ (s : Settings). cells model s x) e) (sheet model)),
+  )
 
 -- ---- all that are known: those of the sheet, and the others
 

@@ -1,5 +1,6 @@
 pub mod Called
 pub mod Counting
+pub mod Streaming
 pub mod Ending
 pub mod Typing
 pub mod Spelling

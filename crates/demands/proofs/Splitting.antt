@@ -1,21 +1,26 @@
 -- Demand 2: host bytes in any pieces, over any calls with any outputs, are answered as the bytes are.
-use Prim.Native.Nat.{ℕ, _*_, _≤_}
+use Prim.Native.Nat.{ℕ, suc, _+_, _-_, _*_, _≤_, _<_}
 use mathlib.Core.Path.{_≡_, refl, sym, ap, _∙_}
 use mathlib.Core.List.{List, [], _∷_, _++_, append-assoc, append-nil}
 use mathlib.Core.Bool.{Bool, true, false, cond}
+use mathlib.Core.Logic.{⊎-elim}
 use native.Mathlib.Omega.{arith}
 use native.Mathlib.Nat.{min-le-left}
-use borrow.Author.Tests.{le-leb}
-use lib.ListN.{length, take, drop, length-take, take-append-drop}
+use borrow.Author.Tests.{le-leb, lt-leb}
+use lib.ListN.{length, take, drop, length-take, length-append, take-append-drop}
 use lib.Seq.{take-take, take-length, drop-length}
-use Rattle.tpg.specs.Answers.{answer, handed, leastOutput}
-use Rattle.tpg.specs.States.{stateWithin}
-use Rattle.tpg.specs.Steps.{after, said, taken}
-use Rattle.tpg.specs.Calls.{admits, turnedAway, roomed, roomedBytes, hosted, hostText, hostBytes}
+use Rattle.numbers.proofs.Cases.{below}
+use Rattle.tpg.specs.Answers.{number, answer, handed, done, leastOutput}
+use Rattle.tpg.specs.States.{stateWithin, Sound}
+use Rattle.tpg.specs.Steps.{next, sent, after, said, taken}
+use Rattle.tpg.specs.Calls.{admits, turnedAway, roomed, roomedBytes, byteTaken, hosted, hostText, hostCall, hostBytes}
 use Rattle.tpg.specs.declared.State.{State}
 use Rattle.tpg.proofs.Counts.{taken-few, all-taken}
 use Rattle.tpg.proofs.Runs.{after-append, said-append}
-use Rattle.demands.specs.Turns.{Turn, piece, turned, left, received, reached}
+use Rattle.tpg.proofs.Kept.{next-sound}
+use Rattle.demands.specs.Calls.{byte, host, outcome}
+use Rattle.demands.specs.Turns.{Turn, piece, turned, left, received, reached, oneByOne, sentOneByOne}
+use Rattle.demands.proofs.Called.{table-holds}
 
 -- what was sent and what is still to be sent for the rest of the bytes are what all of them make the box send; so is the state after the rest
 abbrev pub Continues : State → List ℕ → List ℕ → State → List ℕ → Type 0
@@ -78,3 +83,40 @@ pub one-turn : (s : State) → stateWithin s ≡ true → (bytes : List ℕ) (ro
 unfolding left roomed admits hosted
 one-turn s w bytes room least h =
     rw (w, le-leb leastOutput room least, take-length bytes, all-taken bytes s room h) (drop-length bytes)
+
+-- ---- byte by byte
+
+-- a byte that is refused ends the run, as no room for it does
+module _ (s : State) (within : stateWithin s ≡ true) (b : ℕ) (bs : List ℕ) where
+  no-room : (room : ℕ) → room < leastOutput
+      → (hosted s (b ∷ bs) room ≡ oneByOne s (b ∷ bs) room) × (hostText s (b ∷ bs) room ≡ sentOneByOne s (b ∷ bs) room)
+  unfolding hosted taken after said oneByOne sentOneByOne roomed roomedBytes admits turnedAway
+  no-room room h = rw (within, lt-leb leastOutput room h) (refl, refl)
+
+  some-room : (room : ℕ) → leastOutput ≤ room
+      → let rest = room - length (sent s b) in
+      (hosted (next s b) bs rest ≡ oneByOne (next s b) bs rest) × (hostText (next s b) bs rest ≡ sentOneByOne (next s b) bs rest)
+      → (hosted s (b ∷ bs) room ≡ oneByOne s (b ∷ bs) room) × (hostText s (b ∷ bs) room ≡ sentOneByOne s (b ∷ bs) room)
+  unfolding hosted taken after said oneByOne sentOneByOne roomed roomedBytes admits byteTaken
+  some-room room h others =
+      let n = taken (next s b) bs (room - length (sent s b)) in
+      let one : suc n ≡ 1 + n = omega arith in
+      rw (within, le-leb leastOutput room h, ← others .0, ← others .1, length-append (sent s b) (said (next s b) (take n bs)))
+      ((λ i. done (after (next s b) (take n bs)) (one i) (length (sent s b) + length (said (next s b) (take n bs)))), refl)
+
+-- the call for host bytes is the call for one byte, byte after byte
+run-by-one : (input : List ℕ) (s : State) → Sound s → (room : ℕ) → (hosted s input room ≡ oneByOne s input room) × (hostText s input room ≡ sentOneByOne s input room)
+unfolding hosted taken after said oneByOne sentOneByOne
+run-by-one [] s k room = (refl, refl)
+run-by-one (b ∷ bs) s k room =
+    ⊎-elim (no-room s (k .within) b bs room)
+    (λ (h : leastOutput ≤ room). some-room s (k .within) b bs room h (run-by-one bs (next s b) (next-sound s b k) (room - length (sent s b)))) (below room leastOutput)
+
+pub host-by-one : (s : State) → Sound s → (input : List ℕ) (room : ℕ) → leastOutput ≤ room
+    → (hostCall s input room ≡ oneByOne s input room) × (hostBytes s input room ≡ sentOneByOne s input room)
+unfolding roomed roomedBytes admits
+host-by-one s k input room h = rw (k .within, le-leb leastOutput room h) (run-by-one input s k room)
+
+-- where that output is too short, or the state is broken, both calls refuse alike
+pub refused-alike : (s : State) (b : ℕ) (bs : List ℕ) (room : ℕ) → number (outcome s (byte b room) .answer) ≡ number (outcome s (host (b ∷ bs) room) .answer)
+refused-alike s b bs room = table-holds s (byte b room) ∙ sym (table-holds s (host (b ∷ bs) room))

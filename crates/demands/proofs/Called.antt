@@ -1,6 +1,6 @@
 -- Demand 1: what every call answers, what a refusal leaves alone, and the limits that every state keeps (01, "Answer numbers of the calls").
-use Prim.Native.Nat.{ℕ, _-_, _*_}
-use mathlib.Core.Path.{_≡_, refl, ap, subst, _∙_}
+use Prim.Native.Nat.{ℕ, zero, suc, _-_, _*_}
+use mathlib.Core.Path.{_≡_, refl, sym, ap, subst, _∙_}
 use mathlib.Core.List.{List, [], _∷_}
 use mathlib.Core.Bool.{Bool, true, false, cond, not, _&&_, _||_}
 use mathlib.Core.Logic.{_≢_}
@@ -23,20 +23,22 @@ use Rattle.lines.specs.declared.verdict.Verdict.the-variants.{Asks, Writes, Ref
 use Rattle.ports.specs.Line.{held}
 use Rattle.ports.specs.declared.Event.{Event}
 use Rattle.ports.proofs.Kept.{heard-event}
-use Rattle.shared.specs.Events.{heard}
+use Rattle.shared.specs.Events.{taken as readingTaken, heard}
 use Rattle.shared.specs.Limits.{serialWithin}
 use Rattle.shared.specs.declared.Shared.{Shared}
 use Rattle.tpg.specs.Answers.{number, answer, handed, leastOutput}
 use Rattle.tpg.specs.States.{stateWithin, freshBox, cycled, Sound}
 use Rattle.tpg.specs.Steps.{lineText, eventText, acted, next, sent, after, over}
-use Rattle.tpg.specs.Calls.{made, freshCall, admits, turnedAway, roomed, roomedBytes, byteTaken, hosted, hostText, counted, tickText, ticksText, allCounted, isChannel, read, readingCall, cycleCall}
+use Rattle.tpg.specs.Calls.{made, freshCall, admits, turnedAway, roomed, roomedBytes, byteTaken, takenBytes, hosted, hostText, counted, tickText, afterTicks, ticksText, allCounted, isChannel, read, readingCall, cycleCall}
 use Rattle.tpg.specs.declared.State.{State}
 use Rattle.tpg.specs.declared.answers.Outcome.{Outcome}
 use Rattle.tpg.proofs.Deciding.{byte-hosted}
 use Rattle.tpg.proofs.Refusals.{roomed-back, reading-back, cycle-back, untouched}
 use Rattle.tpg.proofs.Kept as kept
+use Rattle.tpg.proofs.Kept.{after-model}
 use Rattle.demands.specs.Calls.{Call, byte, host, reading, tick, ticks, cycle, outcome, bytes, Refusal, row, refusals, freshRefusals, firstGiven, afterCalls}
 use Rattle.demands.specs.Wire.{nak, cr, ended}
+use Rattle.demands.specs.Sheets.{Boxes}
 
 -- ---- the table
 
@@ -191,3 +193,52 @@ calls-sound (c ∷ cs) s k = calls-sound cs (outcome s c .state) (call-sound s k
 -- every state that calls can bring about from a fresh box is within the limits
 pub history-sound : (n serial : ℕ) (cs : List Call) → Sound (afterCalls (freshCall n serial .state) cs)
 history-sound n serial cs = calls-sound cs (freshCall n serial .state) (kept.fresh-call-sound n serial)
+
+-- ---- the model
+
+module _ (s : State) where
+  abbrev Alike : Outcome → Type 0
+  Alike o = o .state .shared .model ≡ s .shared .model
+
+  roomed-model : (least room : ℕ) (o : Outcome) → Alike o → Alike (roomed s least room o)
+  unfolding roomed turnedAway
+  roomed-model least room o same =
+      cond-cases Alike (admits s least room) o (turnedAway s) (λ _. same) (λ _. cond-cases Alike (stateWithin s) (handed (answer 3) s) (handed (answer 1) s) (λ _. refl) (λ _. refl))
+
+  reading-model : (channel : ℕ) (r : Reading) → Alike (readingCall s channel r)
+  unfolding readingCall readingTaken
+  reading-model channel r = by (stateWithin s) (isChannel (s .shared .model) channel) (withinLimits r)
+    where
+      by : (a b c : Bool) → Alike (cond a (cond b (cond c (handed (answer 0) (read s (channel - 1) r)) (handed (answer 5) s)) (handed (answer 4) s)) (handed (answer 1) s))
+      by false b c = refl
+      by true false c = refl
+      by true true false = refl
+      by true true true = refl
+
+ticks-model : (n : ℕ) (s : State) → afterTicks s n .shared .model ≡ s .shared .model
+unfolding afterTicks counted
+ticks-model zero s = refl
+ticks-model (suc n) s = ticks-model n (counted s .state)
+
+call-model : (s : State) (c : Call) → outcome s c .state .shared .model ≡ s .shared .model
+unfolding byteTaken hosted counted cycleCall after
+call-model s (byte b room) = roomed-model s leastOutput room (byteTaken s b) (after-model (b ∷ []) s)
+call-model s (host input room) = roomed-model s leastOutput room (hosted s input room) (after-model (takenBytes s input room) s)
+call-model s (reading channel r) = reading-model s channel r
+call-model s (tick room) = roomed-model s leastOutput room (counted s) refl
+call-model s (ticks n room) = roomed-model s (leastOutput * n) room (allCounted s n) (ticks-model n s)
+call-model s cycle = cond-cases (Alike s) (stateWithin s) (handed (answer 0) (cycled s)) (handed (answer 1) s) (λ _. refl) (λ _. refl)
+
+calls-model : (cs : List Call) (s : State) → afterCalls s cs .shared .model ≡ s .shared .model
+calls-model [] s = refl
+calls-model (c ∷ cs) s = calls-model cs (outcome s c .state) ∙ call-model s c
+
+-- "two boxes of one model, each with any history"
+pub any-history : (model : Model) (m n : ℕ) → serialWithin m ≡ true → serialWithin n ≡ true → (cs ds : List Call)
+    → Boxes (afterCalls (freshBox model m) cs) (afterCalls (freshBox model n) ds)
+any-history model m n p q cs ds =
+    record {
+      first = calls-sound cs (freshBox model m) (kept.fresh-sound model m p);
+      second = calls-sound ds (freshBox model n) (kept.fresh-sound model n q);
+      model = calls-model cs (freshBox model m) ∙ sym (calls-model ds (freshBox model n));
+    }

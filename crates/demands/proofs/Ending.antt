@@ -2,11 +2,11 @@
 use Prim.Native.Nat.{ℕ}
 use mathlib.Core.Path.{_≡_, refl, ap}
 use mathlib.Core.List.{List, []}
-use mathlib.Core.Bool.{Bool, true, false, cond, _&&_, and-false}
+use mathlib.Core.Bool.{Bool, true, false, cond, not, _&&_, _||_, and-false}
 use lib.ListN.{length, take}
 use lib.Dec.{eqb}
 use Rattle.numbers.proofs.Cases.{cond-cases}
-use Rattle.settings.specs.Mnemonics.{isErr}
+use Rattle.settings.specs.Mnemonics.{hasReply, isErr}
 use Rattle.settings.specs.Rows.{number}
 use Rattle.settings.specs.declared.model.Model.{Model}
 use Rattle.settings.specs.declared.mnemonic.Query.the-variants.{Sps, Pr, Prx, Tid, Ayt, Err}
@@ -30,6 +30,7 @@ use Rattle.shared.specs.Replies.{replyText}
 use Rattle.shared.specs.declared.Shared.{Shared}
 use Rattle.tpg.specs.Steps.{lineText, eventText, acted, next, sent}
 use Rattle.tpg.specs.declared.State.{State}
+use Rattle.demands.specs.Wire.{gathering}
 
 -- ---- what a line is in a port
 
@@ -44,16 +45,11 @@ pub record Line (p : Port) (l : List ℕ) (selection : Selection) (error : Word)
 
 -- ---- its end
 
--- the selection and the error word after a line
+-- the selection after a line
 abbrev pub choice : Verdict → Selection
 choice (Asks m) = selected m
 choice (Writes m r) = selected m
 choice (Refused x) = Nothing
-
-abbrev pub gathering : Word → Verdict → Word
-gathering error (Asks m) = error
-gathering error (Writes m r) = error
-gathering error (Refused x) = gathered error x
 
 -- another selection and error word beside it
 with-choice : {p : Port} {l : List ℕ} {selection : Selection} {error : Word} → Line p l selection error → (x : Selection) (w v : Word) → w ≡ v → Line (withChoice p x w) l x v
@@ -132,6 +128,23 @@ told-once s error (Chosen (Asked Ayt)) = refl
 told-once s error (Chosen (Asked Err)) = refl
 told-once s error (Chosen Com) = refl
 told-once s error (Chosen Sav) = refl
+
+-- an ENQ sends it where no mnemonic is selected, or ERR is
+pub told-word : (error : Word) (m : Mnemonic) → wordLeft error (selected m) ≡ cond (not (hasReply m) || isErr m) noError error
+told-word error (Of x) = refl
+told-word error (Cf k) = refl
+told-word error (Asked q) = refl
+told-word error Com = refl
+told-word error Sav = refl
+
+-- it is gone for good
+pub gone-once : (error : Word) (selection : Selection) → wordLeft (wordLeft error selection) selection ≡ wordLeft error selection
+gone-once error Nothing = refl
+gone-once error (Chosen m) = by (isErr m)
+  where
+    by : (t : Bool) → cond t noError (cond t noError error) ≡ cond t noError error
+    by true = refl
+    by false = refl
 
 pub record Replied (s : Shared) (error : Word) (selection : Selection) (bytes : List ℕ) (next : State) : Type 0 where
   pub reply : bytes ≡ enqText s error selection

@@ -14,12 +14,12 @@ use Rattle.tpg.specs.declared.State.{State}
 use Rattle.tpg.proofs.Runs.{after-append, said-append}
 use Rattle.tpg.proofs.Kept.{after-sound, after-model}
 use Rattle.demands.specs.Turns.{Plan, saysOver, becomesOver}
-use Rattle.demands.specs.Wire.{End}
+use Rattle.demands.specs.Wire.{End, sending}
 use Rattle.demands.specs.Replies.{Says, Becomes, Reads, WritesBack}
 use Rattle.demands.specs.Sheets.{boxModel, boxSettings, sheetAsked, copyLines, copyOf, linesSent}
 use Rattle.demands.specs.Demands.{Meets}
 use Rattle.demands.proofs.Splitting.{split, one-turn}
-use Rattle.demands.proofs.Replying.{line-answered, mnemonics-answered}
+use Rattle.demands.proofs.Replying.{line-answered, line-leaves, mnemonics-answered}
 use Rattle.demands.proofs.Copying.{sheet-read, sheet-copied, sheet-cut, sheets-decide}
 
 -- in every state that a box can be in, a program sends and becomes what the box does
@@ -29,6 +29,7 @@ Agrees says becomes = (s : State) → Sound s → (bytes : List ℕ) → (says s
 agreed : (says : Says) (becomes : Becomes) → Agrees says becomes → Meets says becomes
 agreed says becomes g = record {
   answers = (λ s k w ready bytes inner. g s k _ .0 ∙ line-answered s k w ready bytes inner);
+  leaves = (λ s k w ready bytes inner. rw (g s k (sending w bytes) .1) (line-leaves s k w ready bytes inner));
   replies = (λ s k. each-map (λ (m : Mnemonic). Reads said s m × WritesBack said s m) (λ (m : Mnemonic). Reads says s m × WritesBack says s m)
       (λ m both. ((λ has w ready. g s k _ .0 ∙ both .0 has w ready), (λ w ready l r t e. g s k _ .0 ∙ both .1 w ready l r t e))) (known (boxModel s)) (mnemonics-answered s k));
   splits = (λ s k xs ys.

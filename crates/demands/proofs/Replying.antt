@@ -1,6 +1,6 @@
 -- Demand 2: each reply is what 01 gives, for every line and the ENQ behind it, and for every mnemonic read and written.
 use Prim.Native.Nat.{ℕ, zero, suc, _<_}
-use mathlib.Core.Path.{_≡_, refl, sym, ap, ap₂, _∙_}
+use mathlib.Core.Path.{_≡_, refl, sym, ap, ap₂, subst, _∙_}
 use mathlib.Core.List.{List, [], _∷_, _++_}
 use mathlib.Core.Bool.{Bool, true, false, cond}
 use native.Mathlib.Omega.{arith}
@@ -33,16 +33,17 @@ use Rattle.lines.specs.declared.verdict.Verdict.{Verdict}
 use Rattle.lines.specs.declared.verdict.Verdict.the-variants.{Asks, Writes, Refused}
 use Rattle.lines.proofs.Accepted.{Spelt, all-spelt}
 use Rattle.lines.proofs.Kept.{writes-fitting}
+use Rattle.ports.specs.declared.Selection.{Selection}
 use Rattle.shared.specs.Events.{written, heard}
 use Rattle.shared.specs.Replies.{replyText}
 use Rattle.shared.specs.declared.Shared.{Shared}
 use Rattle.tpg.specs.States.{Sound}
-use Rattle.tpg.specs.Steps.{lineText, next, said}
+use Rattle.tpg.specs.Steps.{lineText, next, after, said}
 use Rattle.tpg.specs.declared.State.{State}
-use Rattle.demands.specs.Wire.{ack, nak, Inner, lineIn, ended, Start, onEmpty, afterEtx, begun, Ready, enquiries, asOften, selectedText, errorText, answered, writtenText}
-use Rattle.demands.specs.Replies.{Answers, Reads, WritesBack, Replies}
-use Rattle.demands.proofs.Ending.{choice, gathering, enqText}
-use Rattle.demands.proofs.Typing.{line-enquired, anew-line, anew-shared, anew-said, empty-line}
+use Rattle.demands.specs.Wire.{ack, nak, Inner, lineIn, ended, Start, onEmpty, afterEtx, begun, Ready, enquiries, asOften, selectedText, errorText, answered, gathering, errorLeft, writtenText}
+use Rattle.demands.specs.Replies.{Answers, Left, Leaves, Reads, WritesBack, Replies}
+use Rattle.demands.proofs.Ending.{Line, choice, enqText}
+use Rattle.demands.proofs.Typing.{line-enquired, line-left, anew-line, anew-shared, anew-said, anew-after, empty-line}
 use Rattle.demands.proofs.Spelling.{typeable-inner, typeable-line, Short, names-short, name-typeable, name-judged}
 
 -- ---- every line
@@ -80,6 +81,25 @@ line-answered s k w = by (w .start)
         anew-said s (ended (w .end) bytes ++ enquiries (w .enqs)) ∙ line-enquired now (anew-line s) bytes inner (w .end) (w .enqs)
         ∙ answered-text (w .enqs) (now .shared) (s .port .error) (judged (now .shared .model) (lineIn bytes))
         ∙ ap (λ (x : Shared). answered (w .enqs) x (s .port .error) (judged (x .model) (lineIn bytes))) (anew-shared s)
+
+-- and what it wrote is stored
+pub line-leaves : Leaves after
+line-leaves s k w = by (w .start)
+  where
+    left : {t : State} {v : Verdict} {x : Selection} → (t .shared ≡ heard (s .shared) v) × Line (t .port) [] x (errorLeft (w .enqs) (s .port .error) v) → Left s (w .enqs) v t
+    left l = record { shared = l .0; error = l .1 .word; empty = rw (l .1 .good, l .1 .count) }
+
+    by : (start : Start) → Ready start s → (bytes : List ℕ) → Each Inner bytes
+        → Left s (w .enqs) (judged (s .shared .model) (lineIn bytes)) (after s (begun start (ended (w .end) bytes ++ enquiries (w .enqs))))
+    by onEmpty ready bytes inner = left (line-left s (empty-line s k ready) bytes inner (w .end) (w .enqs))
+    by afterEtx ready bytes inner =
+        let all = ended (w .end) bytes ++ enquiries (w .enqs) in
+        let t = after (next s 3) all in
+        rw (anew-after s all)
+        (left
+        (subst
+        (λ (x : Shared). let v = judged (x .model) (lineIn bytes) in (t .shared ≡ heard x v) × Line (t .port) [] (choice v) (errorLeft (w .enqs) (s .port .error) v))
+        (anew-shared s) (line-left (next s 3) (anew-line s) bytes inner (w .end) (w .enqs))))
 
 -- ---- a mnemonic that is read
 

@@ -17,6 +17,7 @@ use Rattle.lines.specs.Words.{noError}
 use Rattle.lines.specs.Judging.{judged}
 use Rattle.lines.specs.declared.word.Word.{Word}
 use Rattle.lines.specs.declared.verdict.Verdict.{Verdict}
+use Rattle.lines.specs.declared.verdict.Verdict.the-variants.{Asks, Writes, Refused}
 use Rattle.ports.specs.Line.{spoilt, grown, isEmpty}
 use Rattle.ports.specs.Hearing.{withMark, settled}
 use Rattle.ports.specs.declared.Port.{Port}
@@ -33,8 +34,8 @@ use Rattle.tpg.specs.States.{Sound}
 use Rattle.tpg.specs.Steps.{lineText, eventText, acted, hearing, next, sent, after, said}
 use Rattle.tpg.specs.declared.State.{State}
 use Rattle.tpg.proofs.Runs.{after-append, said-append}
-use Rattle.demands.specs.Wire.{Inner, isDropped, undropped, isCharacter, isGood, lineIn, End, cr, crLf, ended, anew, enquiries, asOften}
-use Rattle.demands.proofs.Ending.{Line, choice, gathering, marked-line, settled-line, Judged, Held, held-line, enqText, wordLeft, told-once, cr-judges, enq-replies, lf-nothing, etx-empties}
+use Rattle.demands.specs.Wire.{Inner, isDropped, undropped, isCharacter, isGood, lineIn, End, cr, crLf, ended, anew, enquiries, asOften, gathering, errorLeft}
+use Rattle.demands.proofs.Ending.{Line, choice, marked-line, settled-line, Judged, Held, held-line, enqText, wordLeft, told-once, told-word, gone-once, cr-judges, enq-replies, lf-nothing, etx-empties}
 
 -- ---- the bytes of a line
 
@@ -210,6 +211,25 @@ unfolding asOften
 once-told zero s error x = refl
 once-told (suc n) s error x = ap (λ (t : List ℕ). t ++ asOften n (λ (w : Word). enqText s w x) noError) (told-once s error x)
 
+-- the error word after them
+abbrev wordAfter : ℕ → Word → Selection → Word
+wordAfter zero error x = error
+wordAfter (suc n) error x = wordLeft error x
+
+gone : (n : ℕ) (error : Word) (x : Selection) → wordAfter n (wordLeft error x) x ≡ wordLeft error x
+gone zero error x = refl
+gone (suc n) error x = gone-once error x
+
+-- nothing else changes
+enqs-keep : (n : ℕ) (s : State) {x : Selection} {error : Word} → Line (s .port) [] x error
+    → (after s (enquiries n) .shared ≡ s .shared) × Line (after s (enquiries n) .port) [] x (wordAfter n error x)
+unfolding after
+enqs-keep zero s h = (refl, h)
+enqs-keep (suc n) s {x} {error} h =
+    let r = enq-replies s h in
+    let k = enqs-keep n (next s 5) (r .line) in
+    (k .0 ∙ r .shared, subst (Line (after (next s 5) (enquiries n) .port) [] x) (gone n error x) (k .1))
+
 enqs-replied : (n : ℕ) (s : State) {x : Selection} {error : Word} → Line (s .port) [] x error → said s (enquiries n) ≡ asOften n (λ (w : Word). enqText (s .shared) w x) error
 unfolding said asOften
 enqs-replied zero s h = refl
@@ -217,6 +237,13 @@ enqs-replied (suc n) s {x} {error} h =
     let r = enq-replies s h in
     ap₂ (λ (t u : List ℕ). t ++ u) (r .reply)
     (enqs-replied n (next s 5) (r .line) ∙ ap (λ (t : Shared). asOften n (λ (w : Word). enqText t w x) (wordLeft error x)) (r .shared) ∙ once-told n (s .shared) error x)
+
+-- the word that a line and its ENQs leave
+word-left : (n : ℕ) (error : Word) (v : Verdict) → wordAfter n (gathering error v) (choice v) ≡ errorLeft n error v
+word-left zero error v = refl
+word-left (suc n) error (Refused x) = refl
+word-left (suc n) error (Asks m) = told-word error m
+word-left (suc n) error (Writes m r) = told-word error m
 
 -- behind a line
 pub line-enquired : (s : State) {selection : Selection} {error : Word} → Line (s .port) [] selection error → (bytes : List ℕ) → Each Inner bytes → (e : End) (n : ℕ)
@@ -229,6 +256,18 @@ line-enquired s {error = error} empty bytes inner e n =
     ∙ ap₂ (λ (t u : List ℕ). t ++ u) (j .reply)
     (enqs-replied n (after s (ended e bytes)) (j .line)
     ∙ ap (λ (t : Shared). asOften n (λ (w : Word). enqText t w (choice v)) (gathering error v)) (j .shared))
+
+-- and what they leave behind
+pub line-left : (s : State) {selection : Selection} {error : Word} → Line (s .port) [] selection error → (bytes : List ℕ) → Each Inner bytes → (e : End) (n : ℕ)
+    → let v = judged (s .shared .model) (lineIn bytes) in
+    let t = after s (ended e bytes ++ enquiries n) in
+    (t .shared ≡ heard (s .shared) v) × Line (t .port) [] (choice v) (errorLeft n error v)
+line-left s {error = error} empty bytes inner e n =
+    let v = judged (s .shared .model) (lineIn bytes) in
+    let j = line-judged s empty bytes inner v refl e in
+    let k = enqs-keep n (after s (ended e bytes)) (j .line) in
+    rw (after-append (ended e bytes) (enquiries n) s)
+    (k .0 ∙ j .shared, subst (Line (after (after s (ended e bytes)) (enquiries n) .port) [] (choice v)) (word-left n error v) (k .1))
 
 -- ---- an ETX first
 

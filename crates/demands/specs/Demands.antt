@@ -13,12 +13,13 @@ use Rattle.tpg.specs.Answers.{leastOutput}
 use Rattle.tpg.specs.Steps.{said}
 use Rattle.tpg.specs.declared.State.{State}
 use Rattle.demands.specs.Wire.{ack, End, cr, afterEtx, Way, sending}
-use Rattle.demands.specs.Replies.{Says, Becomes, Answers, Replies, Splits, Keeps}
+use Rattle.demands.specs.Replies.{Says, Becomes, Answers, Leaves, Replies, Splits, Keeps}
 use Rattle.demands.specs.Sheets.{Boxes, copyOf, linesSent, Same, SheetRead, SheetCopied, SheetCut, SheetsDecide}
 
 -- demands 2 and 3
 pub record Meets (says : Says) (becomes : Becomes) : Type 0 where
   pub answers : Answers says
+  pub leaves : Leaves becomes
   pub replies : Replies says
   pub splits : Splits says becomes
   pub keeps : Keeps becomes

@@ -8,10 +8,13 @@ use Rattle.settings.specs.Mnemonics.{known, name, hasReply}
 use Rattle.settings.specs.declared.mnemonic.Mnemonic.{Mnemonic}
 use Rattle.settings.specs.declared.rows.Row.{Row}
 use Rattle.lines.specs.Judging.{judged}
+use Rattle.lines.specs.declared.verdict.Verdict.{Verdict}
 use Rattle.lines.specs.declared.verdict.Verdict.the-variants.{Writes}
+use Rattle.ports.specs.Line.{isEmpty}
+use Rattle.shared.specs.Events.{heard}
 use Rattle.tpg.specs.States.{Sound}
 use Rattle.tpg.specs.declared.State.{State}
-use Rattle.demands.specs.Wire.{ack, Inner, lineIn, Ready, Way, sending, asOften, answered, readText, writtenText}
+use Rattle.demands.specs.Wire.{ack, Inner, lineIn, Ready, Way, sending, asOften, answered, errorLeft, readText, writtenText}
 
 -- what a program sends for host bytes, and its state after them
 abbrev pub Says : Type 0
@@ -26,6 +29,17 @@ abbrev pub Answers : Says → Type 0
 Answers says =
     (s : State) → Sound s → (w : Way) → Ready (w .start) s → (bytes : List ℕ) → Each Inner bytes
     → says s (sending w bytes) ≡ answered (w .enqs) (s .shared) (s .port .error) (judged (s .shared .model) (lineIn bytes))
+
+-- what a line leaves behind: what it wrote is stored and nothing else changed, its error digit is set, and the line is empty
+pub record Left (s : State) (n : ℕ) (v : Verdict) (t : State) : Type 0 where
+  pub shared : t .shared ≡ heard (s .shared) v
+  pub error : t .port .error ≡ errorLeft n (s .port .error) v
+  pub empty : isEmpty (t .port) ≡ true
+
+abbrev pub Leaves : Becomes → Type 0
+Leaves becomes =
+    (s : State) → Sound s → (w : Way) → Ready (w .start) s → (bytes : List ℕ) → Each Inner bytes
+    → Left s (w .enqs) (judged (s .shared .model) (lineIn bytes)) (becomes s (sending w bytes))
 
 -- "for reading a setting": of all mnemonics but COM and SAV, which have no reply; alone on a line they write their default
 abbrev pub Reads : Says → State → Mnemonic → Type 0

@@ -3,14 +3,14 @@ use Prim.Native.Nat.{ℕ, zero, suc, _+_}
 use Prim.Native.Char.{code}
 use mathlib.Core.Path.{_≡_}
 use mathlib.Core.List.{List, [], _∷_, _++_, flatMap}
-use mathlib.Core.Bool.{Bool, true, cond, _&&_, _||_}
+use mathlib.Core.Bool.{Bool, true, cond, not, _&&_, _||_}
 use mathlib.Core.Logic.{_≢_}
 use lib.Dec.{eqb, ltb, leb}
 use lib.ListN.{length, set, take, drop, replicate}
 use Rattle.text.specs.Spans.{until}
 use Rattle.settings.specs.Lists.{every}
 use Rattle.settings.specs.Models.{channels}
-use Rattle.settings.specs.Mnemonics.{name, hasReply, channelOf}
+use Rattle.settings.specs.Mnemonics.{hasReply, isErr, channelOf}
 use Rattle.settings.specs.Kinds.{kinds}
 use Rattle.settings.specs.Rows.{listed, count, cells}
 use Rattle.settings.specs.declared.model.Model.{Model}
@@ -132,6 +132,27 @@ abbrev pub answered : ℕ → Shared → Word → Verdict → List ℕ
 answered n s error (Asks m) = ack ++ asOften n (selectedText s m) error
 answered n s error (Writes m r) = ack ++ asOften n (selectedText (written s m r) m) error
 answered n s error (Refused x) = nak ++ asOften n (errorText s) (gathered error x)
+
+-- ---- what it leaves behind
+
+-- "Digits gather until the word is sent"
+abbrev pub gathering : Word → Verdict → Word
+gathering error (Asks m) = error
+gathering error (Writes m r) = error
+gathering error (Refused x) = gathered error x
+
+-- "in either way of an ENQ or through ERR": whether an ENQ behind the line sends the word
+abbrev pub tellsError : Verdict → Bool
+tellsError (Asks m) = not (hasReply m) || isErr m
+tellsError (Writes m r) = not (hasReply m) || isErr m
+tellsError (Refused x) = true
+
+-- "then it is 0000"
+abbrev pub errorLeft : ℕ → Word → Verdict → Word
+errorLeft zero error v = gathering error v
+errorLeft (suc n) error v = cond (tellsError v) noError (gathering error v)
+
+-- ---- reading and writing a setting
 
 -- for a mnemonic alone that has a reply: "PR2 or CF2 on a 361, 0100", and any other is told
 abbrev pub readText : ℕ → Shared → Word → Mnemonic → List ℕ

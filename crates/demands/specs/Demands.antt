@@ -1,7 +1,7 @@
 -- Demands 2 and 3 together, the rule of the counts, and the empty programs that 01 excludes by name ("What the promises have to decide").
 use Prim.Native.Nat.{ℕ, _-_, _≤_, _<_}
 use mathlib.Core.Path.{_≡_}
-use mathlib.Core.List.{List, []}
+use mathlib.Core.List.{List, [], flatMap}
 use mathlib.Core.Logic.{_≢_}
 use lib.ListN.{length, take, drop}
 use Rattle.settings.specs.Lists.{Each}
@@ -27,6 +27,14 @@ pub record Meets (says : Says) (becomes : Becomes) : Type 0 where
   pub copied : SheetCopied says becomes
   pub cut : SheetCut says becomes
   pub decide : SheetsDecide says
+
+-- lines, each sent in its own way
+pub record Spoken : Type 0 where
+  pub way : Way
+  pub bytes : List ℕ
+
+abbrev pub conversation : List Spoken → List ℕ
+conversation = flatMap (λ (l : Spoken). sending (l .way) (l .bytes))
 
 -- ---- the counts
 

@@ -1,1 +1,4 @@
 pub mod Blocks
+pub mod Finished
+pub mod Answering
+pub mod Writing

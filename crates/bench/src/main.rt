@@ -1,9 +1,10 @@
 // The bench program: frames on standard input, one to a line, and an output line for each on standard output.
 ghost use mathlib.Core.Path.{_≡_};
-ghost use Prim.Native.Nat.{_+_, _≤_};
+ghost use Prim.Native.Nat.{_≤_};
 ghost use lib.ListN.{length, take, drop};
+ghost use Rattle.tpg.specs.Steps.{over};
 ghost use Rattle.frames.specs.Frames.{longestLine};
-ghost use Rattle.bench.specs.Lines.{keptCount, blockSize};
+ghost use Rattle.bench.specs.Lines.{finished, behindLines, afterLines, linesText, fitting, keptCount};
 use frames::LONGEST_FRAME;
 use frames::LONGEST_LINE;
 use libc::STDIN_FILENO;
@@ -16,35 +17,29 @@ const LF: u8 = 10;
 // Of an unfinished line so much is kept: one digit more than the longest frame has, so that it stays too long.
 const KEPT: usize = 2 * LONGEST_FRAME + 1;
 
-// The box, and where the first unfinished line of a block begins.
+// The box, where the first line that is not answered begins, and how much of the output is still to be written.
 struct Left {
     pub state: State,
     pub from: usize,
+    pub written: usize,
 }
 
-// What was written so far sent off where the longest line has no room behind it; the place to write on.
-fn make_room(out: &[u8], at: usize) -> usize
-    requires { ⌜ (at ≤ length (now out)) × (longestLine ≤ length (now out)) ⌝ }
-    ensures { λ r. ⌜ r + longestLine ≤ length (now (out .entry)) ⌝ }
-{
-    if out.len() - at < LONGEST_LINE {
-        io::write_all(STDOUT_FILENO, &out[..at]);
-        return 0;
-    }
-    at
-}
-
-// Every finished line of a block answered, in as few writes as the output's room allows.
+// The finished lines of a block answered, as long as the longest line has room in the output.
 fn answer_lines(state: State, block: &[u8], out: &mut [u8]) -> Left
-    requires { ⌜ (length (now out) ≡ blockSize) × (length (now block) ≤ blockSize) ⌝ }
-    ensures { λ r. ⌜ r .from ≤ length (now (block .entry)) ⌝ }
+    ensures { λ r. ⌜ (let ls = fitting state (finished (now (block .entry))) (length (now (out .entry))) in (r ≡ record { state = afterLines state ls; from = behindLines ls; written = length (linesText state ls) }) × (now (out .exit) ≡ over (linesText state ls) (now (out .entry)))) ⌝ }
 {
     let mut now = state;
     let mut from: usize = 0;
     let mut at: usize = 0;
     let mut to = end_of(block, 0, LF);
     while to < block.len() {
-        at = make_room(out, at);
+        if out.len() - at < LONGEST_LINE {
+            return Left {
+                state: now,
+                from,
+                written: at,
+            };
+        }
         let answered = frames::answer(now, &block[from..to], &mut out[at..]);
         let next = answered.state;
         now = next;
@@ -52,8 +47,35 @@ fn answer_lines(state: State, block: &[u8], out: &mut [u8]) -> Left
         from = to + 1;
         to = end_of(block, from, LF);
     }
-    io::write_all(STDOUT_FILENO, &out[..at]);
-    Left { state: now, from }
+    Left {
+        state: now,
+        from,
+        written: at,
+    }
+}
+
+// Every finished line of a block answered, in as few writes as the output's room allows.
+fn answer_block(state: State, block: &[u8], out: &mut [u8]) -> Left
+    requires { ⌜ longestLine ≤ length (now out) ⌝ }
+    ensures { λ r. ⌜ (let ls = finished (now (block .entry)) in r ≡ record { state = afterLines state ls; from = behindLines ls; written = 0 }) ⌝ }
+{
+    let mut now = state;
+    let mut from: usize = 0;
+    loop {
+        let answered = answer_lines(now, &block[from..], out);
+        if answered.from == 0 {
+            return Left {
+                state: now,
+                from,
+                written: 0,
+            };
+        }
+        let written = answered.written;
+        io::write_all(STDOUT_FILENO, &out[..written]);
+        let next = answered.state;
+        now = next;
+        from += answered.from;
+    }
 }
 
 // The unfinished line moved to the start of the block, cut where it is too long for a frame.
@@ -94,10 +116,10 @@ fn main() {
         if end == held {
             turns = 0;
         } else {
-            let left = answer_lines(state, &block[..end], &mut out);
-            let next = left.state;
+            let answered = answer_block(state, &block[..end], &mut out);
+            let next = answered.state;
             state = next;
-            held = keep(&mut block, left.from, end);
+            held = keep(&mut block, answered.from, end);
             turns -= 1;
         }
     }

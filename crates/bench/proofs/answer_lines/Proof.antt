@@ -1,48 +1,51 @@
--- The next line lies within the block, and what is written within the output.
-use Prim.Native.Nat.{_-_, _+_, _≤_}
-use mathlib.Core.Path.{refl, sym, _∙_}
+-- What is answered from here on is what was to be answered at the start.
+use Prim.Native.Nat.{_-_}
+use mathlib.Core.Path.{refl}
 use native.Mathlib.Omega.{arith}
 use borrow.Author.Needs.{needs}
-use borrow.Rule.Slice.PartMut.{same-len-mid}
+use denote.Ref.{now}
 use lib.ListN.{length}
-use lib.Seq.{length-take-le}
-use Rattle.bench.proofs.Blocks.{Answering, to-inside, written-inside}
+use Rattle.bench.proofs.Answering.{Answering, start, no-room, no-line, to-inside, step}
 use Rattle.bench.proofs.answer_lines.Statement.{statement}
 use Rattle.bench.proofs.answer_lines.Tie as tie
 
 abbrev Inv-loop : tie.InvT-loop
-Inv-loop block out₀ now₀ from₀ at₀ to₀ out now from at to = Answering block out₀ out from at to
+Inv-loop block out₀ now₀ from₀ at₀ to₀ out now from at to = Answering now₀ block out₀ now out from at to
 
 abbrev μ-loop : tie.MeasureT-loop
 μ-loop block out₀ now₀ from₀ at₀ to₀ out now from at to = length block - from
 
 end-of-requires : tie.Need-end-of-requires Inv-loop μ-loop
-end-of-requires c κs = omega arith
+end-of-requires c κs = search needs
 
 loop-holds : tie.Need-loop-holds Inv-loop μ-loop
 loop-holds c =
-    let p = c .before .before .before .pre in
-    record { low = omega arith; end = c .end-of .ensures; short = p .1; wide = p .0; same = refl; inside = omega arith }
+    let a = c .before .before .before .args in
+    start (a .state) (now (a .block)) (now (a .out)) (c .end-of .result) (c .end-of .ensures)
 
-make-room-requires : tie.Need-make-room-requires Inv-loop μ-loop
-make-room-requires c κs =
-    let a = c .before .before .loop .inv in
-    (omega (arith, a .inside, a .same), omega (arith, a .wide, a .same))
+sub-if1 : tie.Need-sub-if1 Inv-loop μ-loop
+sub-if1 c = omega (arith, c .before .loop .inv .inside)
+
+same-length : tie.Need-same-length Inv-loop μ-loop
+same-length c = c .before .before .loop .inv .same
+
+returns : tie.Need-returns Inv-loop μ-loop
+returns c = no-room (c .before .before .loop .inv) (c .if1 .taken)
 
 sub-answer : tie.Need-sub-answer Inv-loop μ-loop
-sub-answer c = to-inside (c .before .before .before .loop .inv) .0
+sub-answer c = to-inside (c .before .before .loop .inv) .0
 
 part-answer-start : tie.Need-part-answer-start Inv-loop μ-loop
-part-answer-start c = to-inside (c .before .before .before .loop .inv) .0
+part-answer-start c = to-inside (c .before .before .loop .inv) .0
 
 part-answer-end : tie.Need-part-answer-end Inv-loop μ-loop
-part-answer-end c = to-inside (c .before .before .before .loop .inv) .1
+part-answer-end c = to-inside (c .before .before .loop .inv) .1
 
 sub-answer-2 : tie.Need-sub-answer-2 Inv-loop μ-loop
-sub-answer-2 c = omega (arith, c .before .make-room .ensures)
+sub-answer-2 c = c .before .before .before .loop .inv .inside
 
 part-answer-start-2 : tie.Need-part-answer-start-2 Inv-loop μ-loop
-part-answer-start-2 c = omega (arith, c .before .make-room .ensures)
+part-answer-start-2 c = omega (arith, c .before .before .before .loop .inv .inside)
 
 part-answer-end-2 : tie.Need-part-answer-end-2 Inv-loop μ-loop
 part-answer-end-2 c = omega arith
@@ -53,58 +56,36 @@ answer-requires c κs = search needs
 add-at : tie.Need-add-at Inv-loop μ-loop
 add-at c =
     let w = c .before .before .before .before in
-    let m = w .before .before .before in
-    let l = m .before .before .before .loop in
-    let inside : m .make-room .result + w .answer .result .written ≤ length (l .out) = written-inside _ _ (l .out) (m .make-room .result) _ (w .answer .ensures .0) (omega (arith, m .make-room .ensures)) in
-    omega (arith, inside, l .inv .same, l .inv .wide)
+    let d = w .before .before .before in
+    let t = d .before in
+    let g = step (t .before .loop .inv) (t .loop-test .taken) (d .if1 .left) (w .answer .result) (w .answer .last .1 .1 .0) (w .answer .ensures) _ refl in
+    omega (arith, g .inside, g .same, t .before .before .before .before .before .good .1 .1 .0 .0)
 
 add-from : tie.Need-add-from Inv-loop μ-loop
 add-from c =
-    let l = c .before .before .before .before .before .before .before .before .before .before .loop in
-    omega (arith, to-inside (l .inv) .1, l .inv .short)
+    let t = c .before .before .before .before .before .before .before .before in
+    omega (arith, t .loop-test .taken)
 
 end-of-requires-2 : tie.Need-end-of-requires-2 Inv-loop μ-loop
-end-of-requires-2 c κs =
-    let l = c .before .before .before .before .before .before .before .before .before in
-    omega (arith, l .loop-test .taken)
+end-of-requires-2 c κs = search needs
 
 loop-less : tie.Need-loop-less Inv-loop μ-loop
 loop-less c =
-    let l = c .before .before .before .before .before .before .before .before .before .before in
-    omega (arith, to-inside (l .before .loop .inv) .0, l .loop-test .taken)
+    let t = c .before .before .before .before .before .before .before .before .before in
+    omega (arith, to-inside (t .before .loop .inv) .0, t .loop-test .taken)
 
 loop-again : tie.Need-loop-again Inv-loop μ-loop
 loop-again c =
     let w = c .before .before .before .before .before in
-    let m = w .before .before .before in
-    let t = m .before .before in
-    let l = t .before .loop in
-    let inside : m .make-room .result + w .answer .result .written ≤ length (l .out) = written-inside _ _ (l .out) (m .make-room .result) _ (w .answer .ensures .0) (omega (arith, m .make-room .ensures)) in
-    record {
-      low = omega (arith, t .loop-test .taken);
-      end = c .end-of2 .ensures;
-      short = l .inv .short;
-      wide = l .inv .wide;
-      same = same-len-mid (m .make-room .result) (length (l .out) - m .make-room .result) (l .out) (w .answer .last .1 .1 .0) (w .answer .kept .1 .1 .0) ∙ l .inv .same;
-      inside = omega (arith, inside, l .inv .same);
-    }
+    let d = w .before .before .before in
+    let t = d .before in
+    step (t .before .loop .inv) (t .loop-test .taken) (d .if1 .left) (w .answer .result) (w .answer .last .1 .1 .0) (w .answer .ensures) (c .end-of2 .result) (c .end-of2 .ensures)
 
-slice-reshare-prefix-write-all : tie.Need-slice-reshare-prefix-write-all Inv-loop μ-loop
-slice-reshare-prefix-write-all c = omega (arith, c .before .loop .inv .inside, c .before .loop .inv .same)
+same-length-2 : tie.Need-same-length-2 Inv-loop μ-loop
+same-length-2 c = c .before .loop .inv .same
 
-slice-aggregate-write-all : tie.Need-slice-aggregate-write-all Inv-loop μ-loop
-slice-aggregate-write-all c =
-    let l = c .before .before .loop in
-    sym (length-take-le (l .at) (l .out) (omega (arith, l .inv .inside, l .inv .same)))
-
-write-all-requires : tie.Need-write-all-requires Inv-loop μ-loop
-write-all-requires c κs = search needs
-
-same-length : tie.Need-same-length Inv-loop μ-loop
-same-length c = c .before .before .before .loop .inv .same
-
-returns : tie.Need-returns Inv-loop μ-loop
-returns c = c .before .before .before .loop .inv .low
+returns-2 : tie.Need-returns-2 Inv-loop μ-loop
+returns-2 c = no-line (c .before .loop .inv) (c .loop-test .left)
 
 pub answer-lines-spec : {M : Type 1} → statement M
 answer-lines-spec =
@@ -114,7 +95,9 @@ answer-lines-spec =
     μ-loop
     end-of-requires
     loop-holds
-    make-room-requires
+    sub-if1
+    same-length
+    returns
     sub-answer
     part-answer-start
     part-answer-end
@@ -127,8 +110,5 @@ answer-lines-spec =
     end-of-requires-2
     loop-less
     loop-again
-    slice-reshare-prefix-write-all
-    slice-aggregate-write-all
-    write-all-requires
-    same-length
-    returns)
+    same-length-2
+    returns-2)

@@ -5,8 +5,9 @@ use native.Mathlib.Omega.{arith}
 use borrow.Author.Needs.{needs}
 use lib.ListN.{length}
 use lib.Seq.{length-take-le}
-use Rattle.bench.specs.Lines.{mostKept, blockSize}
-use Rattle.bench.proofs.Blocks.{written-few}
+use Rattle.bench.specs.Lines.{mostKept}
+use Rattle.bench.proofs.Blocks.{blockSize}
+use Rattle.bench.proofs.Writing.{left-inside, written-few}
 use Rattle.bench.proofs.main.Statement.{statement}
 use Rattle.bench.proofs.main.Tie as tie
 
@@ -45,19 +46,16 @@ loop-again c =
 array-share-prefix-block : tie.Need-array-share-prefix-block Inv-loop μ-loop
 array-share-prefix-block c = c .before .before .fill .ensures .1
 
-slice-aggregate-answer-lines : tie.Need-slice-aggregate-answer-lines Inv-loop μ-loop
-slice-aggregate-answer-lines c =
+slice-aggregate-answer-block : tie.Need-slice-aggregate-answer-block Inv-loop μ-loop
+slice-aggregate-answer-block c =
     let f = c .before .before .before .fill in
     sym (length-take-le (f .result) (f .last .0) (f .ensures .1))
 
-slice-aggregate-answer-lines-2 : tie.Need-slice-aggregate-answer-lines-2 Inv-loop μ-loop
-slice-aggregate-answer-lines-2 c = search needs
+slice-aggregate-answer-block-2 : tie.Need-slice-aggregate-answer-block-2 Inv-loop μ-loop
+slice-aggregate-answer-block-2 c = search needs
 
-answer-lines-requires : tie.Need-answer-lines-requires Inv-loop μ-loop
-answer-lines-requires c κs =
-    let f = c .before .before .before .before .fill in
-    let l = c .before .before .before .before .before .before .before .loop .inv in
-    (l .2, omega (arith, length-take-le (f .result) (f .last .0) (f .ensures .1), f .ensures .1, f .kept .0, l .1))
+answer-block-requires : tie.Need-answer-block-requires Inv-loop μ-loop
+answer-block-requires c κs = omega (arith, c .before .before .before .before .before .before .before .loop .inv .2)
 
 slice-aggregate-keep : tie.Need-slice-aggregate-keep Inv-loop μ-loop
 slice-aggregate-keep c = search needs
@@ -65,7 +63,8 @@ slice-aggregate-keep c = search needs
 keep-requires : tie.Need-keep-requires Inv-loop μ-loop
 keep-requires c κs =
     let f = c .before .before .before .before .before .before .before .before .fill in
-    (omega (arith, c .before .before .before .answer-lines .ensures, length-take-le (f .result) (f .last .0) (f .ensures .1)), f .ensures .1)
+    let a = c .before .before .before .answer-block in
+    (omega (arith, left-inside _ _ (a .result) (a .ensures), length-take-le (f .result) (f .last .0) (f .ensures .1)), f .ensures .1)
 
 sub-turns : tie.Need-sub-turns Inv-loop μ-loop
 sub-turns c = omega arith
@@ -78,7 +77,7 @@ loop-again-2 c =
     let a = c .before .before .before .before .before in
     let f = a .before .before .before .before .before in
     let l = f .before .before .before .loop .inv in
-    (omega (arith, c .before .keep .ensures .0), c .before .keep .kept .0 ∙ f .fill .kept .0 ∙ l .1, a .answer-lines .kept .1 .1 .0 ∙ l .2)
+    (omega (arith, c .before .keep .ensures .0), c .before .keep .kept .0 ∙ f .fill .kept .0 ∙ l .1, a .answer-block .kept .1 .1 .0 ∙ l .2)
 
 array-share-prefix-block-2 : tie.Need-array-share-prefix-block-2 Inv-loop μ-loop
 array-share-prefix-block-2 c = omega (arith, c .before .before .loop .inv .0, c .before .before .loop .inv .1)
@@ -130,9 +129,9 @@ main-spec =
     loop-less
     loop-again
     array-share-prefix-block
-    slice-aggregate-answer-lines
-    slice-aggregate-answer-lines-2
-    answer-lines-requires
+    slice-aggregate-answer-block
+    slice-aggregate-answer-block-2
+    answer-block-requires
     slice-aggregate-keep
     keep-requires
     sub-turns

@@ -205,15 +205,17 @@ module _ (s : State) where
   roomed-model least room o same =
       cond-cases Alike (admits s least room) o (turnedAway s) (λ _. same) (λ _. cond-cases Alike (stateWithin s) (handed (answer 3) s) (handed (answer 1) s) (λ _. refl) (λ _. refl))
 
-  reading-model : (channel : ℕ) (r : Reading) → Alike (readingCall s channel r)
+  -- a reading, refused or not, leaves the port and the model alone
+  pub reading-keeps : (channel : ℕ) (r : Reading) → (readingCall s channel r .state .port ≡ s .port) × Alike (readingCall s channel r)
   unfolding readingCall readingTaken
-  reading-model channel r = by (stateWithin s) (isChannel (s .shared .model) channel) (withinLimits r)
+  reading-keeps channel r = by (stateWithin s) (isChannel (s .shared .model) channel) (withinLimits r)
     where
-      by : (a b c : Bool) → Alike (cond a (cond b (cond c (handed (answer 0) (read s (channel - 1) r)) (handed (answer 5) s)) (handed (answer 4) s)) (handed (answer 1) s))
-      by false b c = refl
-      by true false c = refl
-      by true true false = refl
-      by true true true = refl
+      by : (a b c : Bool) → let o = cond a (cond b (cond c (handed (answer 0) (read s (channel - 1) r)) (handed (answer 5) s)) (handed (answer 4) s)) (handed (answer 1) s) in
+          (o .state .port ≡ s .port) × Alike o
+      by false b c = (refl, refl)
+      by true false c = (refl, refl)
+      by true true false = (refl, refl)
+      by true true true = (refl, refl)
 
 ticks-model : (n : ℕ) (s : State) → afterTicks s n .shared .model ≡ s .shared .model
 unfolding afterTicks counted
@@ -224,7 +226,7 @@ call-model : (s : State) (c : Call) → outcome s c .state .shared .model ≡ s 
 unfolding byteTaken hosted counted cycleCall after
 call-model s (byte b room) = roomed-model s leastOutput room (byteTaken s b) (after-model (b ∷ []) s)
 call-model s (host input room) = roomed-model s leastOutput room (hosted s input room) (after-model (takenBytes s input room) s)
-call-model s (reading channel r) = reading-model s channel r
+call-model s (reading channel r) = reading-keeps s channel r .1
 call-model s (tick room) = roomed-model s leastOutput room (counted s) refl
 call-model s (ticks n room) = roomed-model s (leastOutput * n) room (allCounted s n) (ticks-model n s)
 call-model s cycle = cond-cases (Alike s) (stateWithin s) (handed (answer 0) (cycled s)) (handed (answer 1) s) (λ _. refl) (λ _. refl)

@@ -1,6 +1,6 @@
 -- The stream: its line is sent exactly where a whole interval ends.
 use Prim.Native.Nat.{ℕ, zero, suc, _+_, _-_, _/_, _≤_, _<_}
-use mathlib.Core.Path.{_≡_, refl, sym, ap, ap₂, subst, _∙_}
+use mathlib.Core.Path.{_≡_, refl, sym, ap, subst, _∙_}
 use mathlib.Core.List.{List, [], _∷_, _++_, flatMap, append-nil}
 use mathlib.Core.Bool.{Bool, true, false, cond, _&&_, _||_}
 use mathlib.Core.Logic.{_⊎_, inl, inr, ⊎-elim}
@@ -8,22 +8,17 @@ use native.Mathlib.Omega.{arith}
 use native.Mathlib.Nat.{zero-add, div-eq-of-lt, add-div-left}
 use borrow.Author.Tests.{eqb-true, ltb-true, eq-eqb, ne-eqb, lt-ltb, le-ltb}
 use lib.Dec.{eqb, ltb}
-use lib.ListN.{replicate}
-use Rattle.numbers.proofs.Cases.{and-true, below, cond-cases}
-use Rattle.gauges.specs.Readings.{withinLimits}
-use Rattle.gauges.specs.declared.reading.Reading.{Reading}
-use Rattle.ports.specs.Limits.{lineWithin, isInterval, streamWithin, selectionWithin, portWithin}
+use Rattle.numbers.proofs.Cases.{and-true, below}
+use Rattle.ports.specs.Limits.{lineWithin, isInterval, streamWithin, portWithin}
 use Rattle.ports.specs.Stream.{withStream, ticked}
 use Rattle.ports.specs.declared.Port.{Port}
 use Rattle.ports.specs.declared.Ticked.{Ticked}
 use Rattle.shared.specs.Limits.{sharedWithin}
-use Rattle.shared.specs.Replies.{streamText}
-use Rattle.tpg.specs.Answers.{answer, handed}
 use Rattle.tpg.specs.States.{stateWithin, Sound}
-use Rattle.tpg.specs.Calls.{dueText, tickText, counted, ticksText, isChannel, read, readingCall}
+use Rattle.tpg.specs.Calls.{dueText, tickText, counted, ticksText, readingCall}
 use Rattle.tpg.specs.declared.State.{State}
-use Rattle.tpg.specs.declared.answers.Outcome.{Outcome}
-use Rattle.demands.specs.Streams.{passed, streamLines, TicksStream, Quiet, tick, reading, quietly, afterQuiet, ticksIn, TickStreams}
+use Rattle.demands.specs.Streams.{passed, streamLines, TicksStream, Quiet, tick, reading, afterQuiet, ticksIn, TickStreams}
+use Rattle.demands.proofs.Called.{reading-keeps}
 
 -- "the tick count below the interval", or no stream
 abbrev Running : Port → Type 0
@@ -113,17 +108,6 @@ ticks-stream s k n = all-lines n s (running s k)
 
 -- ---- readings between them
 
--- a reading, refused or not, leaves the port alone
-reading-port : (s : State) (channel : ℕ) (r : Reading) → readingCall s channel r .state .port ≡ s .port
-unfolding readingCall
-reading-port s channel r = by (stateWithin s) (isChannel (s .shared .model) channel) (withinLimits r)
-  where
-    by : (a b c : Bool) → cond a (cond b (cond c (handed (answer 0) (read s (channel - 1) r)) (handed (answer 5) s)) (handed (answer 4) s)) (handed (answer 1) s) .state .port ≡ s .port
-    by false b c = refl
-    by true false c = refl
-    by true true false = refl
-    by true true true = refl
-
 -- the stream goes on, and what ends later ends behind what ended before
 record Since (s : State) (qs : List Quiet) : Type 0 where
   still : Running (afterQuiet s qs .port)
@@ -145,7 +129,7 @@ since (tick ∷ qs) s r =
     }
 since (reading channel x ∷ qs) s r =
     let now = readingCall s channel x .state in
-    let same = reading-port s channel x in
+    let same = reading-keeps s channel x .0 in
     let i = since qs now (subst Running (sym same) r) in
     let ends-same : (n : ℕ) → passed now n ≡ passed s n = λ n. ap (λ (p : Port). ends p n) same in
     record { still = i .still; later = (λ n. sym (ends-same (ticksIn qs + n)) ∙ i .later n ∙ ap (λ (k : ℕ). k + passed (afterQuiet now qs) n) (ends-same (ticksIn qs))) }

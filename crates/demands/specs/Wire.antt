@@ -1,29 +1,24 @@
 -- Lines and replies as bytes on the wire (01, "Bytes from the host"; 000, "Transmission protocol" and "Reception protocol").
-use Prim.Native.Nat.{ℕ, zero, suc, _+_}
-use Prim.Native.Char.{code}
+use Prim.Native.Nat.{ℕ, zero, suc}
 use mathlib.Core.Path.{_≡_}
-use mathlib.Core.List.{List, [], _∷_, _++_, flatMap}
+use mathlib.Core.List.{List, [], _∷_, _++_}
 use mathlib.Core.Bool.{Bool, true, cond, not, _&&_, _||_}
 use mathlib.Core.Logic.{_≢_}
 use lib.Dec.{eqb, ltb, leb}
-use lib.ListN.{length, set, take, drop, replicate}
-use Rattle.text.specs.Spans.{until}
+use lib.ListN.{length, set, take, replicate}
 use Rattle.settings.specs.Lists.{every}
 use Rattle.settings.specs.Models.{channels}
 use Rattle.settings.specs.Mnemonics.{hasReply, isErr, channelOf}
 use Rattle.settings.specs.Kinds.{kinds}
 use Rattle.settings.specs.Rows.{listed, count, cells}
-use Rattle.settings.specs.declared.model.Model.{Model}
-use Rattle.settings.specs.declared.mnemonic.Setting.{Setting}
 use Rattle.settings.specs.declared.mnemonic.Setting.the-variants.{Cal}
 use Rattle.settings.specs.declared.mnemonic.Mnemonic.{Mnemonic}
 use Rattle.settings.specs.declared.mnemonic.Mnemonic.the-variants.{Setting as Of, Cf, Query as Asked, Com, Sav}
 use Rattle.settings.specs.declared.mnemonic.Query.the-variants.{Err}
 use Rattle.settings.specs.declared.rows.Row.{Row}
-use Rattle.settings.specs.declared.Settings.{Settings}
 use Rattle.lines.specs.Splitting.{joined}
 use Rattle.lines.specs.Words.{noError, gathered}
-use Rattle.lines.specs.Replies.{texts, settingText, lineEnd}
+use Rattle.lines.specs.Replies.{texts, lineEnd}
 use Rattle.lines.specs.declared.word.Word.{Word}
 use Rattle.lines.specs.declared.verdict.Fault.the-variants.{Hardware}
 use Rattle.lines.specs.declared.verdict.Verdict.{Verdict}

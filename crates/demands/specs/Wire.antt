@@ -72,7 +72,7 @@ pub data End : Type 0 where
 
 abbrev pub endBytes : End → List ℕ
 endBytes cr = 13 ∷ []
-endBytes crLf = lineEnd
+endBytes crLf = 13 ∷ 10 ∷ []
 
 -- bytes, and "CR ends a line"
 abbrev pub ended : End → List ℕ → List ℕ
@@ -82,7 +82,7 @@ ended e bytes = bytes ++ endBytes e
 abbrev pub anew : List ℕ → List ℕ
 anew bytes = 3 ∷ bytes
 
--- on a line that is empty already, or with an ETX whatever came before
+-- a line begins where the line is empty already, or with an ETX whatever came before
 pub data Start : Type 0 where
   onEmpty : Start
   afterEtx : Start
@@ -91,11 +91,12 @@ abbrev pub begun : Start → List ℕ → List ℕ
 begun onEmpty bytes = bytes
 begun afterEtx bytes = anew bytes
 
+-- a box is ready for the first where its line is empty, and for the second always
 abbrev pub Ready : Start → State → Type 0
 Ready onEmpty s = isEmpty (s .port) ≡ true
 Ready afterEtx s = Unit {0}
 
--- a way of sending a line: how it begins and ends, and how many ENQs come behind it
+-- a way of sending a line: how it begins and ends, and how many ENQs come behind it, each "Request for data transmission" (000)
 pub record Way : Type 0 where
   pub start : Start
   pub end : End
@@ -114,13 +115,13 @@ unfoldable pub asOften : ℕ → (Word → List ℕ) → Word → List ℕ
 asOften zero text error = []
 asOften (suc n) text error = text error ++ asOften n text noError
 
--- ENQ after an accepted line: "the selected mnemonic's reply"; "after COM and SAV the selection is none", so it "sends the error word"
-abbrev pub selectedText : Shared → Mnemonic → Word → List ℕ
-selectedText s m error = cond (hasReply m) (replyText s error m) (replyText s error (Asked Err))
-
--- ENQ after a refused one, which "clears the selection"
+-- ENQ after a refused line, which "clears the selection": it "sends the error word", as ERR does
 abbrev pub errorText : Shared → Word → List ℕ
 errorText s error = replyText s error (Asked Err)
+
+-- after an accepted one: "the selected mnemonic's reply"; "after COM and SAV the selection is none"
+abbrev pub selectedText : Shared → Mnemonic → Word → List ℕ
+selectedText s m error = cond (hasReply m) (replyText s error m) (errorText s error)
 
 -- what comes back for a line and so many ENQs behind it
 abbrev pub answered : ℕ → Shared → Word → Verdict → List ℕ

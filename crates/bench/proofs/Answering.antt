@@ -7,11 +7,11 @@ use native.Mathlib.Nat.{zero-add, add-zero}
 use borrow.Author.Tests.{le-leb, lt-leb}
 use borrow.Rule.Slice.PartMut.{putMid}
 use lib.ListN.{length, take, drop, length-append, length-drop, drop-of-length-le}
-use lib.Seq.{length-take-le, take-all, take-at, drop-append-add, drop-drop}
+use lib.Seq.{length-take-le, take-all, drop-drop}
 use Rattle.text.specs.Spans.{until}
 use Rattle.tpg.specs.Steps.{over, laidAt}
 use Rattle.tpg.specs.declared.State.{State}
-use Rattle.tpg.proofs.Laying.{laid-nothing}
+use Rattle.tpg.proofs.Laying.{laid-length, laid-more, laid-nothing}
 use Rattle.frames.specs.Frames.{reply, lineOf, longestLine, answerCall, answerLine}
 use Rattle.frames.specs.declared.Answered.{Answered}
 use Rattle.frames.proofs.Bounds.{line-fits}
@@ -40,25 +40,6 @@ module _ (s : State) where
   answered line room enough = rw (le-leb longestLine room enough) (refl, refl)
 
 -- ---- bytes laid over an output from a place on
-
-module _ (at : ℕ) (xs out : List ℕ) (inside : at ≤ length out) where
-  front-length : length (take at out ++ xs) ≡ at + length xs
-  front-length = rw (length-append (take at out) xs, length-take-le at out inside)
-
-  laid-length : at + length xs ≤ length out → length (laidAt at xs out) ≡ length out
-  unfolding laidAt
-  laid-length room = rw (length-append (take at out ++ xs) (drop (at + length xs) out), front-length, length-drop (at + length xs) out) (omega arith)
-
-  -- some, and then others behind them
-  laid-more : (ys : List ℕ) → laidAt (at + length xs) ys (laidAt at xs out) ≡ laidAt at (xs ++ ys) out
-  unfolding laidAt
-  laid-more ys =
-      let p = take at out ++ xs in
-      let d = drop (at + length xs) out in
-      let all : at + length xs + length ys ≡ at + length (xs ++ ys) = omega (arith, length-append xs ys) in
-      let rest : drop (at + length xs + length ys) (p ++ d) ≡ drop (at + length (xs ++ ys)) out =
-      ap (λ (n : ℕ). drop (n + length ys) (p ++ d)) (sym front-length) ∙ drop-append-add p d (length ys) ∙ drop-drop (length ys) (at + length xs) out ∙ ap (λ (n : ℕ). drop n out) all in
-      rw (take-at p d (at + length xs) front-length, rest, append-assoc (take at out) xs ys)
 
 -- the part from the place on, with bytes over its front, back in its output
 part-back : (at : ℕ) (xs out : List ℕ) → putMid at (length out - at) out (over xs (take (length out - at) (drop at out))) ≡ laidAt at xs out

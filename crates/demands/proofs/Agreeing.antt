@@ -1,10 +1,8 @@
 -- What the demands fix: a program that meets them sends what the box sends, in every conversation of lines and ENQs.
 use Prim.Native.Nat.{ℕ, _+_}
 use mathlib.Core.Path.{_≡_, refl, sym, ap, ap₂, _∙_}
-use mathlib.Core.List.{List, [], _∷_, _++_, flatMap}
+use mathlib.Core.List.{List, [], _∷_, _++_, flatMap, append-cancel-right}
 use mathlib.Core.Bool.{true}
-use native.Mathlib.Omega.{arith}
-use lib.ListN.{length, length-append}
 use Rattle.settings.specs.Lists.{every, Each}
 use Rattle.lines.specs.Judging.{judged}
 use Rattle.lines.specs.declared.word.Word.{Word}
@@ -18,11 +16,6 @@ use Rattle.demands.specs.Wire.{nak, Inner, undropped, isGood, lineIn, cr
 use Rattle.demands.specs.Replies.{Says, Becomes}
 use Rattle.demands.specs.Demands.{Meets, Spoken, conversation}
 use Rattle.demands.proofs.Handing.{bytes-meet}
-
--- what stands before a list that is the whole is nothing
-nothing-before : (l m : List ℕ) → l ++ m ≡ m → l ≡ []
-nothing-before [] m e = refl
-nothing-before (b ∷ l) m e = absurd (omega (arith, ap length e, length-append (b ∷ l) m))
 
 -- an empty line is ready for both ways to begin
 ready : (s : State) → isEmpty (s .port) ≡ true → (start : Start) → Ready start s
@@ -42,7 +35,7 @@ module _ (says : Says) (becomes : Becomes) (meets : Meets says becomes) where
   nothing-said : (s : State) → Sound s → says s [] ≡ []
   nothing-said s k =
       let now = becomes s [] in
-      nothing-before (says s []) nak
+      append-cancel-right (says s []) [] nak
       (ap (λ (t : List ℕ). says s [] ++ t) (sym (refused now (meets .keeps s k [] .0))) ∙ sym (meets .splits s k [] (sending refusing []) .0) ∙ refused s k)
 
 -- two boxes that answer alike: an empty line, and the same settings, readings and error word

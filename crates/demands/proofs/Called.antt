@@ -36,7 +36,7 @@ use Rattle.tpg.proofs.Deciding.{byte-hosted}
 use Rattle.tpg.proofs.Refusals.{roomed-back, reading-back, cycle-back, untouched}
 use Rattle.tpg.proofs.Kept as kept
 use Rattle.tpg.proofs.Kept.{after-model}
-use Rattle.demands.specs.Calls.{Call, byte, host, reading, tick, ticks, cycle, outcome, bytes, Refusal, row, refusals, freshRefusals, firstGiven, afterCalls}
+use Rattle.demands.specs.Calls.{Call, byte, host, reading, tick, ticks, cycle, outcome, bytes, Refusal, row, lent, refusals, freshRefusals, firstGiven, afterCalls}
 use Rattle.demands.specs.Wire.{nak, cr, ended}
 use Rattle.demands.specs.Sheets.{Boxes}
 
@@ -56,7 +56,7 @@ Tabled o rows sent = (number (o .answer) ≡ firstGiven rows) × (o .written ≡
 
 module _ (s : State) where
   roomed-tabled : (least room : ℕ) (o : Outcome) (text : List ℕ) → o .answer ≡ answer 0 → o .written ≡ length text
-      → Tabled (roomed s least room o) (row 1 (not (stateWithin s)) ∷ row 3 (ltb room least) ∷ []) (roomedBytes s least room text)
+      → Tabled (roomed s least room o) (lent s least room) (roomedBytes s least room text)
   unfolding roomed roomedBytes admits turnedAway
   roomed-tabled least room o text e count = rw (at-most least room) (by (stateWithin s) (ltb room least))
     where
@@ -197,21 +197,21 @@ history-sound n serial cs = calls-sound cs (freshCall n serial .state) (kept.fre
 -- ---- the model
 
 module _ (s : State) where
-  abbrev Alike : Outcome → Type 0
-  Alike o = o .state .shared .model ≡ s .shared .model
+  abbrev SameModel : Outcome → Type 0
+  SameModel o = o .state .shared .model ≡ s .shared .model
 
-  roomed-model : (least room : ℕ) (o : Outcome) → Alike o → Alike (roomed s least room o)
+  roomed-model : (least room : ℕ) (o : Outcome) → SameModel o → SameModel (roomed s least room o)
   unfolding roomed turnedAway
   roomed-model least room o same =
-      cond-cases Alike (admits s least room) o (turnedAway s) (λ _. same) (λ _. cond-cases Alike (stateWithin s) (handed (answer 3) s) (handed (answer 1) s) (λ _. refl) (λ _. refl))
+      cond-cases SameModel (admits s least room) o (turnedAway s) (λ _. same) (λ _. cond-cases SameModel (stateWithin s) (handed (answer 3) s) (handed (answer 1) s) (λ _. refl) (λ _. refl))
 
   -- a reading, refused or not, leaves the port and the model alone
-  pub reading-keeps : (channel : ℕ) (r : Reading) → (readingCall s channel r .state .port ≡ s .port) × Alike (readingCall s channel r)
+  pub reading-keeps : (channel : ℕ) (r : Reading) → (readingCall s channel r .state .port ≡ s .port) × SameModel (readingCall s channel r)
   unfolding readingCall readingTaken
   reading-keeps channel r = by (stateWithin s) (isChannel (s .shared .model) channel) (withinLimits r)
     where
       by : (a b c : Bool) → let o = cond a (cond b (cond c (handed (answer 0) (read s (channel - 1) r)) (handed (answer 5) s)) (handed (answer 4) s)) (handed (answer 1) s) in
-          (o .state .port ≡ s .port) × Alike o
+          (o .state .port ≡ s .port) × SameModel o
       by false b c = (refl, refl)
       by true false c = (refl, refl)
       by true true false = (refl, refl)
@@ -229,7 +229,7 @@ call-model s (host input room) = roomed-model s leastOutput room (hosted s input
 call-model s (reading channel r) = reading-keeps s channel r .1
 call-model s (tick room) = roomed-model s leastOutput room (counted s) refl
 call-model s (ticks n room) = roomed-model s (leastOutput * n) room (allCounted s n) (ticks-model n s)
-call-model s cycle = cond-cases (Alike s) (stateWithin s) (handed (answer 0) (cycled s)) (handed (answer 1) s) (λ _. refl) (λ _. refl)
+call-model s cycle = cond-cases (SameModel s) (stateWithin s) (handed (answer 0) (cycled s)) (handed (answer 1) s) (λ _. refl) (λ _. refl)
 
 calls-model : (cs : List Call) (s : State) → afterCalls s cs .shared .model ≡ s .shared .model
 calls-model [] s = refl

@@ -2,7 +2,7 @@
 -- over the sheet of any model.
 use Prim.Native.Nat.{ℕ, zero, suc, _+_, _<_}
 use mathlib.Core.Path.{_≡_, refl, sym, ap, ap₂, subst, _∙_}
-use mathlib.Core.List.{List, [], _∷_, _++_, map, flatMap, append-assoc}
+use mathlib.Core.List.{List, [], _∷_, _++_, map, flatMap, append-assoc, append-nil}
 use mathlib.Core.Bool.{true}
 use mathlib.Core.Logic.{_≢_}
 use native.Mathlib.Omega.{arith}
@@ -45,10 +45,10 @@ use Rattle.tpg.specs.Steps.{next, after, said}
 use Rattle.tpg.specs.declared.State.{State}
 use Rattle.tpg.proofs.Runs.{after-append, said-append}
 use Rattle.tpg.proofs.Kept.{heard-model, after-sound, after-model}
-use Rattle.demands.specs.Wire.{ack, End, ended, anew, enquiries}
+use Rattle.demands.specs.Wire.{ack, End, ended, anew, enquiries, asOften}
 use Rattle.demands.specs.Sheets.{boxModel, boxSettings, Boxes, questions, sheetAsked, replies, firstLine, behindLine, copyLines, copyOf, linesSent, acks, SheetRead, SheetCopied, SheetCut, SheetsDecide}
 use Rattle.demands.proofs.Ending.{Line}
-use Rattle.demands.proofs.Typing.{line-judged, line-asked, anew-line, anew-shared, anew-said, anew-after}
+use Rattle.demands.proofs.Typing.{line-judged, line-enquired, line-left, anew-line, anew-shared, anew-said, anew-after}
 use Rattle.demands.proofs.Spelling.{Character, Typeable, typeable-inner, typeable-line, Short, names-short, name-typeable, setting-characters, line-typeable, name-judged}
 
 -- ---- what a sheet needs of its mnemonics
@@ -64,16 +64,21 @@ module _ (e : End) (shared : Shared) where
   inquired : (xs : List Setting) (s : State) {selection : Selection} {error : Word} → s .shared ≡ shared → Line (s .port) [] selection error → Each (Asked (shared .model)) xs
       → (said s (questions e xs) ≡ replies (shared .model) (shared .settings) xs)
       × (after s (questions e xs) .shared ≡ shared)
-  unfolding flatMap after said replyText
+  unfolding flatMap after said replyText asOften
   inquired [] s same empty h = (refl, same)
   inquired (x ∷ xs) s {error = error} same empty h =
       let bytes = ended e (name (Of x)) ++ enquiries 1 in
       let rest = questions e xs in
       let verdict : judged (s .shared .model) (name (Of x)) ≡ Asks (Of x) = ap (λ (t : Shared). judged (t .model) (name (Of x))) same ∙ h .0 .asks in
       let t = name-typeable (Of x) (h .0 .short) in
-      let one = line-asked s empty (name (Of x)) (typeable-inner (name (Of x)) t) (Asks (Of x)) (ap (judged (s .shared .model)) (typeable-line (name (Of x)) t) ∙ verdict) e in
-      let all = inquired xs (after s bytes) (one .1 ∙ same) (one .2) (h .1) in (
-        said-append bytes rest s ∙ ap₂ (λ (t u : List ℕ). t ++ u) (one .0 ∙ ap (λ (t : Shared). ack ++ replyText t error (Of x)) same) (all .0),
+      let asks = ap (judged (s .shared .model)) (typeable-line (name (Of x)) t) ∙ verdict in
+      let inner = typeable-inner (name (Of x)) t in
+      let one = line-left s empty (name (Of x)) inner (Asks (Of x)) asks e 1 in
+      let all = inquired xs (after s bytes) (one .0 ∙ same) (one .1) (h .1) in
+      let text : said s bytes ≡ ack ++ replyText shared error (Of x) =
+      line-enquired s empty (name (Of x)) inner (Asks (Of x)) asks e 1 ∙ ap (λ (t : List ℕ). ack ++ t) (append-nil (replyText (s .shared) error (Of x)))
+      ∙ ap (λ (t : Shared). ack ++ replyText t error (Of x)) same in (
+        said-append bytes rest s ∙ ap₂ (λ (t u : List ℕ). t ++ u) text (all .0),
         ap (λ (t : State). t .shared) (after-append bytes rest s) ∙ all .1,
       )
 
@@ -273,16 +278,6 @@ sheet-cut a b both e f n =
 
 -- ---- a sheet tells the settings
 
--- what stands before the first CR
-until-cr : (t u x y : List ℕ) → Each (λ (c : ℕ). c ≢ 13) t → Each (λ (c : ℕ). c ≢ 13) u → t ++ (13 ∷ x) ≡ u ++ (13 ∷ y) → (t ≡ u) × (x ≡ y)
-until-cr [] [] x y p q e = (refl, cc)
-until-cr [] (c ∷ u) x y p q e = absurd (q .0 (cc))
-until-cr (c ∷ t) [] x y p q e = absurd (p .0 (cc))
-until-cr (c ∷ t) (d ∷ u) x y p q e =
-    let both = until-cr t u x y (p .1) (q .1) (cc) in
-    let same : c ≡ d = cc in
-    (ap₂ (λ (h : ℕ) (l : List ℕ). h ∷ l) same (both .0), both .1)
-
 -- each reply ends at its CR, so equal bytes are equal replies
 replies-texts : (model : Model) (a b : Settings) (xs : List Setting) → replies model a xs ≡ replies model b xs → map (settingText model a) xs ≡ map (settingText model b) xs
 unfolding flatMap
@@ -292,8 +287,11 @@ replies-texts model a b (x ∷ xs) e =
     let u = settingText model b x in
     let f : t ++ (13 ∷ 10 ∷ replies model a xs) ≡ u ++ (13 ∷ 10 ∷ replies model b xs) =
     sym (append-assoc t lineEnd (replies model a xs)) ∙ ap (drop 3) e ∙ append-assoc u lineEnd (replies model b xs) in
-    let r = until-cr t u _ _ (no-cr t (setting-characters model a x)) (no-cr u (setting-characters model b x)) f in
-    ap₂ (λ (h : List ℕ) (l : List (List ℕ)). h ∷ l) (r .0) (replies-texts model a b xs (ap (drop 1) (r .1)))
+    let p = no-cr t (setting-characters model a x) in
+    let q = no-cr u (setting-characters model b x) in
+    let first : t ≡ u = sym (first-line t (replies model a xs) p) ∙ ap firstLine f ∙ first-line u (replies model b xs) q in
+    let others : replies model a xs ≡ replies model b xs = sym (behind-line t (replies model a xs) p) ∙ ap behindLine f ∙ behind-line u (replies model b xs) q in
+    ap₂ (λ (h : List ℕ) (l : List (List ℕ)). h ∷ l) first (replies-texts model a b xs others)
 
 pub sheets-decide : SheetsDecide said
 sheets-decide a b both e f =

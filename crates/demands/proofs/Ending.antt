@@ -115,19 +115,19 @@ wordLeft error Nothing = noError
 wordLeft error (Chosen m) = cond (isErr m) noError error
 
 -- a reply tells the error word only where it is ERR's or stands for none, and then the word is gone
-pub told-once : (s : Shared) (error : Word) (selection : Selection) → enqText s (wordLeft error selection) selection ≡ enqText s noError selection
+pub reply-without-word : (s : Shared) (error : Word) (selection : Selection) → enqText s (wordLeft error selection) selection ≡ enqText s noError selection
 unfolding replyText
-told-once s error Nothing = refl
-told-once s error (Chosen (Of x)) = refl
-told-once s error (Chosen (Cf k)) = refl
-told-once s error (Chosen (Asked Sps)) = refl
-told-once s error (Chosen (Asked (Pr k))) = refl
-told-once s error (Chosen (Asked Prx)) = refl
-told-once s error (Chosen (Asked Tid)) = refl
-told-once s error (Chosen (Asked Ayt)) = refl
-told-once s error (Chosen (Asked Err)) = refl
-told-once s error (Chosen Com) = refl
-told-once s error (Chosen Sav) = refl
+reply-without-word s error Nothing = refl
+reply-without-word s error (Chosen (Of x)) = refl
+reply-without-word s error (Chosen (Cf k)) = refl
+reply-without-word s error (Chosen (Asked Sps)) = refl
+reply-without-word s error (Chosen (Asked (Pr k))) = refl
+reply-without-word s error (Chosen (Asked Prx)) = refl
+reply-without-word s error (Chosen (Asked Tid)) = refl
+reply-without-word s error (Chosen (Asked Ayt)) = refl
+reply-without-word s error (Chosen (Asked Err)) = refl
+reply-without-word s error (Chosen Com) = refl
+reply-without-word s error (Chosen Sav) = refl
 
 -- an ENQ sends it where no mnemonic is selected, or ERR is
 pub told-word : (error : Word) (m : Mnemonic) → wordLeft error (selected m) ≡ cond (not (hasReply m) || isErr m) noError error
@@ -138,9 +138,9 @@ told-word error Com = refl
 told-word error Sav = refl
 
 -- it is gone for good
-pub gone-once : (error : Word) (selection : Selection) → wordLeft (wordLeft error selection) selection ≡ wordLeft error selection
-gone-once error Nothing = refl
-gone-once error (Chosen m) = by (isErr m)
+pub word-stays-gone : (error : Word) (selection : Selection) → wordLeft (wordLeft error selection) selection ≡ wordLeft error selection
+word-stays-gone error Nothing = refl
+word-stays-gone error (Chosen m) = by (isErr m)
   where
     by : (t : Bool) → cond t noError (cond t noError error) ≡ cond t noError error
     by true = refl

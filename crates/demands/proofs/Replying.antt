@@ -74,11 +74,11 @@ line-answered s k w = by (w .start)
     by : (start : Start) → Ready start s → (bytes : List ℕ) → Each Inner bytes
         → said s (begun start (ended (w .end) bytes ++ enquiries (w .enqs))) ≡ answered (w .enqs) (s .shared) (s .port .error) (judged (s .shared .model) (lineIn bytes))
     by onEmpty ready bytes inner =
-        line-enquired s (empty-line s k ready) bytes inner (w .end) (w .enqs)
+        line-enquired s (empty-line s k ready) bytes inner (judged (s .shared .model) (lineIn bytes)) refl (w .end) (w .enqs)
         ∙ answered-text (w .enqs) (s .shared) (s .port .error) (judged (s .shared .model) (lineIn bytes))
     by afterEtx ready bytes inner =
         let now = next s 3 in
-        anew-said s (ended (w .end) bytes ++ enquiries (w .enqs)) ∙ line-enquired now (anew-line s) bytes inner (w .end) (w .enqs)
+        anew-said s (ended (w .end) bytes ++ enquiries (w .enqs)) ∙ line-enquired now (anew-line s) bytes inner (judged (now .shared .model) (lineIn bytes)) refl (w .end) (w .enqs)
         ∙ answered-text (w .enqs) (now .shared) (s .port .error) (judged (now .shared .model) (lineIn bytes))
         ∙ ap (λ (x : Shared). answered (w .enqs) x (s .port .error) (judged (x .model) (lineIn bytes))) (anew-shared s)
 
@@ -91,7 +91,7 @@ line-leaves s k w = by (w .start)
 
     by : (start : Start) → Ready start s → (bytes : List ℕ) → Each Inner bytes
         → Left s (w .enqs) (judged (s .shared .model) (lineIn bytes)) (after s (begun start (ended (w .end) bytes ++ enquiries (w .enqs))))
-    by onEmpty ready bytes inner = left (line-left s (empty-line s k ready) bytes inner (w .end) (w .enqs))
+    by onEmpty ready bytes inner = left (line-left s (empty-line s k ready) bytes inner (judged (s .shared .model) (lineIn bytes)) refl (w .end) (w .enqs))
     by afterEtx ready bytes inner =
         let all = ended (w .end) bytes ++ enquiries (w .enqs) in
         let t = after (next s 3) all in
@@ -99,7 +99,7 @@ line-leaves s k w = by (w .start)
         (left
         (subst
         (λ (x : Shared). let v = judged (x .model) (lineIn bytes) in (t .shared ≡ heard x v) × Line (t .port) [] (choice v) (errorLeft (w .enqs) (s .port .error) v))
-        (anew-shared s) (line-left (next s 3) (anew-line s) bytes inner (w .end) (w .enqs))))
+        (anew-shared s) (line-left (next s 3) (anew-line s) bytes inner (judged (next s 3 .shared .model) (lineIn bytes)) refl (w .end) (w .enqs))))
 
 -- ---- a mnemonic that is read
 

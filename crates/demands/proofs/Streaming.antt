@@ -1,14 +1,14 @@
 -- The stream: its line is sent exactly where a whole interval ends.
 use Prim.Native.Nat.{ℕ, zero, suc, _+_, _-_, _/_, _≤_, _<_}
-use mathlib.Core.Path.{_≡_, refl, sym, ap, subst, _∙_}
+use mathlib.Core.Path.{_≡_, sym, ap, subst, _∙_}
 use mathlib.Core.List.{List, [], _∷_, _++_, flatMap, append-nil}
-use mathlib.Core.Bool.{Bool, true, false, cond, _&&_, _||_}
+use mathlib.Core.Bool.{Bool, true, false, cond, _&&_}
 use mathlib.Core.Logic.{_⊎_, inl, inr, ⊎-elim}
 use native.Mathlib.Omega.{arith}
 use native.Mathlib.Nat.{zero-add, div-eq-of-lt, add-div-left}
 use borrow.Author.Tests.{eqb-true, ltb-true, eq-eqb, ne-eqb, lt-ltb, le-ltb}
 use lib.Dec.{eqb, ltb}
-use Rattle.numbers.proofs.Cases.{and-true, below}
+use Rattle.numbers.proofs.Cases.{and-true, or-true, below}
 use Rattle.ports.specs.Limits.{lineWithin, isInterval, streamWithin, portWithin}
 use Rattle.ports.specs.Stream.{withStream, ticked}
 use Rattle.ports.specs.declared.Port.{Port}
@@ -24,10 +24,6 @@ use Rattle.demands.proofs.Called.{reading-keeps}
 abbrev Running : Port → Type 0
 Running p = (p .interval ≡ 0) ⊎ (p .ticks < p .interval)
 
-or-cases : (a b : Bool) → a || b ≡ true → (a ≡ true) ⊎ (b ≡ true)
-or-cases true b e = inl refl
-or-cases false b e = inr e
-
 running : (s : State) → Sound s → Running (s .port)
 unfolding stateWithin portWithin
 running s k =
@@ -37,7 +33,7 @@ running s k =
     ⊎-elim
     (λ (a : eqb (p .interval) 0 && eqb (p .ticks) 0 ≡ true). inl (eqb-true (p .interval) 0 (and-true (eqb (p .interval) 0) _ a .0)))
     (λ (b : isInterval (p .interval) && ltb (p .ticks) (p .interval) ≡ true). inr (ltb-true (p .ticks) (p .interval) (and-true (isInterval (p .interval)) _ b .1)))
-    (or-cases _ _ stream)
+    (or-true _ _ stream)
 
 -- whole intervals that end within n ticks, by the port alone
 abbrev ends : Port → ℕ → ℕ

@@ -35,7 +35,7 @@ use Rattle.tpg.specs.Steps.{lineText, eventText, acted, hearing, next, sent, af
 use Rattle.tpg.specs.declared.State.{State}
 use Rattle.tpg.proofs.Runs.{after-append, said-append}
 use Rattle.demands.specs.Wire.{Inner, isDropped, undropped, isCharacter, isGood, lineIn, End, cr, crLf, ended, anew, enquiries, asOften, gathering, errorLeft}
-use Rattle.demands.proofs.Ending.{Line, choice, marked-line, settled-line, Judged, Held, held-line, enqText, wordLeft, told-once, told-word, gone-once, cr-judges, enq-replies, lf-nothing, etx-empties}
+use Rattle.demands.proofs.Ending.{Line, choice, marked-line, settled-line, Judged, Held, held-line, enqText, wordLeft, reply-without-word, told-word, word-stays-gone, cr-judges, enq-replies, lf-nothing, etx-empties}
 
 -- ---- the bytes of a line
 
@@ -160,6 +160,48 @@ good-run (b ∷ bytes) s front {selection} {error} inner h c few =
     (below (length front) 80)))
     (λ d e. rw (d, spoilt-bad front b (undropped bytes) e) (bad-run bytes _ (inner .1) (record { bad = refl; chosen = h .chosen; word = h .word })))
 
+-- ---- so many ENQs
+
+-- only the first can tell the error word
+replies-without-word : (n : ℕ) (s : Shared) (error : Word) (x : Selection) → asOften n (λ (w : Word). enqText s w x) (wordLeft error x) ≡ asOften n (λ (w : Word). enqText s w x) noError
+unfolding asOften
+replies-without-word zero s error x = refl
+replies-without-word (suc n) s error x = ap (λ (t : List ℕ). t ++ asOften n (λ (w : Word). enqText s w x) noError) (reply-without-word s error x)
+
+-- the error word after them
+abbrev wordAfter : ℕ → Word → Selection → Word
+wordAfter zero error x = error
+wordAfter (suc n) error x = wordLeft error x
+
+word-gone : (n : ℕ) (error : Word) (x : Selection) → wordAfter n (wordLeft error x) x ≡ wordLeft error x
+word-gone zero error x = refl
+word-gone (suc n) error x = word-stays-gone error x
+
+-- nothing else changes
+enqs-keep : (n : ℕ) (s : State) {x : Selection} {error : Word} → Line (s .port) [] x error
+    → (after s (enquiries n) .shared ≡ s .shared) × Line (after s (enquiries n) .port) [] x (wordAfter n error x)
+unfolding after
+enqs-keep zero s h = (refl, h)
+enqs-keep (suc n) s {x} {error} h =
+    let r = enq-replies s h in
+    let k = enqs-keep n (next s 5) (r .line) in
+    (k .0 ∙ r .shared, subst (Line (after (next s 5) (enquiries n) .port) [] x) (word-gone n error x) (k .1))
+
+enqs-replied : (n : ℕ) (s : State) {x : Selection} {error : Word} → Line (s .port) [] x error → said s (enquiries n) ≡ asOften n (λ (w : Word). enqText (s .shared) w x) error
+unfolding said asOften
+enqs-replied zero s h = refl
+enqs-replied (suc n) s {x} {error} h =
+    let r = enq-replies s h in
+    ap₂ (λ (t u : List ℕ). t ++ u) (r .reply)
+    (enqs-replied n (next s 5) (r .line) ∙ ap (λ (t : Shared). asOften n (λ (w : Word). enqText t w x) (wordLeft error x)) (r .shared) ∙ replies-without-word n (s .shared) error x)
+
+-- the word that a line and its ENQs leave
+word-left : (n : ℕ) (error : Word) (v : Verdict) → wordAfter n (gathering error v) (choice v) ≡ errorLeft n error v
+word-left zero error v = refl
+word-left (suc n) error (Refused x) = refl
+word-left (suc n) error (Asks m) = told-word error m
+word-left (suc n) error (Writes m r) = told-word error m
+
 -- ---- a line and its end
 
 module _ (s : State) {selection : Selection} {error : Word} (empty : Line (s .port) [] selection error) (bytes : List ℕ) (inner : Each Inner bytes)
@@ -192,82 +234,23 @@ module _ (s : State) {selection : Selection} {error : Word} (empty : Line (s .po
   line-judged cr = cr-judged
   line-judged crLf = lf-judged
 
-  -- and one ENQ behind it
-  pub line-asked : (e : End) → (said s (ended e bytes ++ enquiries 1) ≡ lineText v ++ enqText (heard (s .shared) v) (gathering error v) (choice v))
-      × (after s (ended e bytes ++ enquiries 1) .shared ≡ heard (s .shared) v)
-      × Line (after s (ended e bytes ++ enquiries 1) .port) [] (choice v) (wordLeft (gathering error v) (choice v))
-  unfolding after said
-  line-asked e =
+  -- and so many ENQs behind it
+  pub line-enquired : (e : End) (n : ℕ) → said s (ended e bytes ++ enquiries n) ≡ lineText v ++ asOften n (λ (w : Word). enqText (heard (s .shared) v) w (choice v)) (gathering error v)
+  line-enquired e n =
       let j = line-judged e in
-      let now = after s (ended e bytes) in
-      let r = enq-replies now (j .line) in
-      rw (said-append (ended e bytes) (5 ∷ []) s, after-append (ended e bytes) (5 ∷ []) s, append-nil (sent now 5), r .reply, j .reply, r .shared, j .shared) (refl, refl, r .line)
+      said-append (ended e bytes) (enquiries n) s
+      ∙ ap₂ (λ (t u : List ℕ). t ++ u) (j .reply)
+      (enqs-replied n (after s (ended e bytes)) (j .line)
+      ∙ ap (λ (t : Shared). asOften n (λ (w : Word). enqText t w (choice v)) (gathering error v)) (j .shared))
 
--- ---- so many ENQs
-
--- only the first can tell the error word
-once-told : (n : ℕ) (s : Shared) (error : Word) (x : Selection) → asOften n (λ (w : Word). enqText s w x) (wordLeft error x) ≡ asOften n (λ (w : Word). enqText s w x) noError
-unfolding asOften
-once-told zero s error x = refl
-once-told (suc n) s error x = ap (λ (t : List ℕ). t ++ asOften n (λ (w : Word). enqText s w x) noError) (told-once s error x)
-
--- the error word after them
-abbrev wordAfter : ℕ → Word → Selection → Word
-wordAfter zero error x = error
-wordAfter (suc n) error x = wordLeft error x
-
-gone : (n : ℕ) (error : Word) (x : Selection) → wordAfter n (wordLeft error x) x ≡ wordLeft error x
-gone zero error x = refl
-gone (suc n) error x = gone-once error x
-
--- nothing else changes
-enqs-keep : (n : ℕ) (s : State) {x : Selection} {error : Word} → Line (s .port) [] x error
-    → (after s (enquiries n) .shared ≡ s .shared) × Line (after s (enquiries n) .port) [] x (wordAfter n error x)
-unfolding after
-enqs-keep zero s h = (refl, h)
-enqs-keep (suc n) s {x} {error} h =
-    let r = enq-replies s h in
-    let k = enqs-keep n (next s 5) (r .line) in
-    (k .0 ∙ r .shared, subst (Line (after (next s 5) (enquiries n) .port) [] x) (gone n error x) (k .1))
-
-enqs-replied : (n : ℕ) (s : State) {x : Selection} {error : Word} → Line (s .port) [] x error → said s (enquiries n) ≡ asOften n (λ (w : Word). enqText (s .shared) w x) error
-unfolding said asOften
-enqs-replied zero s h = refl
-enqs-replied (suc n) s {x} {error} h =
-    let r = enq-replies s h in
-    ap₂ (λ (t u : List ℕ). t ++ u) (r .reply)
-    (enqs-replied n (next s 5) (r .line) ∙ ap (λ (t : Shared). asOften n (λ (w : Word). enqText t w x) (wordLeft error x)) (r .shared) ∙ once-told n (s .shared) error x)
-
--- the word that a line and its ENQs leave
-word-left : (n : ℕ) (error : Word) (v : Verdict) → wordAfter n (gathering error v) (choice v) ≡ errorLeft n error v
-word-left zero error v = refl
-word-left (suc n) error (Refused x) = refl
-word-left (suc n) error (Asks m) = told-word error m
-word-left (suc n) error (Writes m r) = told-word error m
-
--- behind a line
-pub line-enquired : (s : State) {selection : Selection} {error : Word} → Line (s .port) [] selection error → (bytes : List ℕ) → Each Inner bytes → (e : End) (n : ℕ)
-    → let v = judged (s .shared .model) (lineIn bytes) in
-    said s (ended e bytes ++ enquiries n) ≡ lineText v ++ asOften n (λ (w : Word). enqText (heard (s .shared) v) w (choice v)) (gathering error v)
-line-enquired s {error = error} empty bytes inner e n =
-    let v = judged (s .shared .model) (lineIn bytes) in
-    let j = line-judged s empty bytes inner v refl e in
-    said-append (ended e bytes) (enquiries n) s
-    ∙ ap₂ (λ (t u : List ℕ). t ++ u) (j .reply)
-    (enqs-replied n (after s (ended e bytes)) (j .line)
-    ∙ ap (λ (t : Shared). asOften n (λ (w : Word). enqText t w (choice v)) (gathering error v)) (j .shared))
-
--- and what they leave behind
-pub line-left : (s : State) {selection : Selection} {error : Word} → Line (s .port) [] selection error → (bytes : List ℕ) → Each Inner bytes → (e : End) (n : ℕ)
-    → let v = judged (s .shared .model) (lineIn bytes) in
-    let t = after s (ended e bytes ++ enquiries n) in
-    (t .shared ≡ heard (s .shared) v) × Line (t .port) [] (choice v) (errorLeft n error v)
-line-left s {error = error} empty bytes inner e n =
-    let v = judged (s .shared .model) (lineIn bytes) in
-    let j = line-judged s empty bytes inner v refl e in
-    let k = enqs-keep n (after s (ended e bytes)) (j .line) in
-    rw (after-append (ended e bytes) (enquiries n) s)
-    (k .0 ∙ j .shared, subst (Line (after (after s (ended e bytes)) (enquiries n) .port) [] (choice v)) (word-left n error v) (k .1))
+  -- and what they leave behind
+  pub line-left : (e : End) (n : ℕ) → let t = after s (ended e bytes ++ enquiries n) in
+      (t .shared ≡ heard (s .shared) v) × Line (t .port) [] (choice v) (errorLeft n error v)
+  line-left e n =
+      let j = line-judged e in
+      let k = enqs-keep n (after s (ended e bytes)) (j .line) in
+      rw (after-append (ended e bytes) (enquiries n) s)
+      (k .0 ∙ j .shared, subst (Line (after (after s (ended e bytes)) (enquiries n) .port) [] (choice v)) (word-left n error v) (k .1))
 
 -- ---- an ETX first
 

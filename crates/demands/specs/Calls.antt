@@ -11,7 +11,8 @@ use Rattle.tpg.specs.Calls.{byteCall, byteBytes, hostCall, hostBytes, tickCall,
 use Rattle.tpg.specs.declared.State.{State}
 use Rattle.tpg.specs.declared.answers.Outcome.{Outcome}
 
--- "take host bytes, take a gauge reading, take one tick of 100 ms, power cycle"; where an output is lent, its length comes last
+-- "take host bytes, take a gauge reading, take one tick of 100 ms, power cycle", and one byte or several ticks; where an output is lent, its length
+-- comes last
 pub data Call : Type 0 where
   byte : ℕ → ℕ → Call
   host : List ℕ → ℕ → Call
@@ -46,14 +47,18 @@ pub record Refusal : Type 0 where
 abbrev pub row : ℕ → Bool → Refusal
 row number given = record { number = number; given = given }
 
--- "the state handed in breaks a limit below", "output shorter than 64 bytes", "channel not on the model", "reading outside its limits"
+-- "the state handed in breaks a limit below", "output shorter than 64 bytes": the rows of a call with an output, and of how much it asks for
+abbrev pub lent : State → ℕ → ℕ → List Refusal
+lent s least room = row 1 (not (stateWithin s)) ∷ row 3 (ltb room least) ∷ []
+
+-- of every call; "channel not on the model", "reading outside its limits"
 abbrev pub refusals : State → Call → List Refusal
-refusals s (byte b room) = row 1 (not (stateWithin s)) ∷ row 3 (ltb room leastOutput) ∷ []
-refusals s (host input room) = row 1 (not (stateWithin s)) ∷ row 3 (ltb room leastOutput) ∷ []
+refusals s (byte b room) = lent s leastOutput room
+refusals s (host input room) = lent s leastOutput room
 refusals s (reading channel r) =
     row 1 (not (stateWithin s)) ∷ row 4 (not (isChannel (s .shared .model) channel)) ∷ row 5 (not (withinLimits r)) ∷ []
-refusals s (tick room) = row 1 (not (stateWithin s)) ∷ row 3 (ltb room leastOutput) ∷ []
-refusals s (ticks n room) = row 1 (not (stateWithin s)) ∷ row 3 (ltb room (leastOutput * n)) ∷ []
+refusals s (tick room) = lent s leastOutput room
+refusals s (ticks n room) = lent s (leastOutput * n) room
 refusals s cycle = row 1 (not (stateWithin s)) ∷ []
 
 -- the call that makes a box: "model not 361 or 362, or serial above 99999999"

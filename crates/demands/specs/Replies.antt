@@ -1,4 +1,4 @@
--- Demand 2, said of what a program sends for host bytes and of its state after them, so that it can be asked of any program.
+-- Demand 2 (docs/DEMANDS.md has its sentences), said of what a program sends for host bytes and of its state after them, so that it can be asked of any program.
 use Prim.Native.Nat.{ℕ}
 use mathlib.Core.Path.{_≡_}
 use mathlib.Core.List.{List, _++_}

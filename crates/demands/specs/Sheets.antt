@@ -1,4 +1,4 @@
--- Demand 3, said as demand 2 is.
+-- Demand 3 (docs/DEMANDS.md has its sentences), said as demand 2 is.
 use Prim.Native.Nat.{ℕ, _+_}
 use Prim.Native.Char.{code}
 use mathlib.Core.Path.{_≡_}

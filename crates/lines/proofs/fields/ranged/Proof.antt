@@ -1,3 +1,4 @@
+-- A malformed numeral is a malformed field; a number is tested against the limits by the callee.
 use borrow.Author.Needs.{needs}
 use Rattle.lines.proofs.fields.ranged.Statement.{statement}
 use Rattle.lines.proofs.fields.ranged.Tie as tie

@@ -1,3 +1,4 @@
+-- The kind tells the case, and the field is what the callee makes of the numeral that was read.
 use borrow.Author.Needs.{needs}
 use Rattle.lines.proofs.fields.read.Statement.{statement}
 use Rattle.lines.proofs.fields.read.Tie as tie

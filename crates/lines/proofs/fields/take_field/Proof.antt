@@ -1,3 +1,4 @@
+-- The field before a comma, the last one, or none to be read (`taken-next`, `taken-last`, `taken-not`).
 use Rattle.lines.proofs.Walking.{taken-not, taken-next, taken-last}
 use borrow.Author.Needs.{needs}
 use Rattle.lines.proofs.fields.take_field.Statement.{statement}

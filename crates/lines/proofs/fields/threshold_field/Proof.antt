@@ -1,3 +1,4 @@
+-- Malformed stays malformed, out of range is a fault of the parameter, and what is within is held.
 use borrow.Author.Needs.{needs}
 use Rattle.lines.proofs.fields.threshold_field.Statement.{statement}
 use Rattle.lines.proofs.fields.threshold_field.Tie as tie

@@ -1,3 +1,4 @@
+-- What the word before the first comma names decides what the whole line is (`line-named`).
 use mathlib.Core.Path.{sym, _∙_}
 use Rattle.settings.specs.declared.mnemonic.Named.the-variants.{Known, Unknown}
 use Rattle.lines.proofs.Walking.{end-inside, line-named}

@@ -1,3 +1,4 @@
+-- COM and SAV write their defaults, and any other mnemonic asks.
 use borrow.Author.Needs.{needs}
 use Rattle.lines.proofs.judging.judge_alone.Statement.{statement}
 use Rattle.lines.proofs.judging.judge_alone.Tie as tie

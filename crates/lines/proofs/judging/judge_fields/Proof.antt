@@ -1,3 +1,4 @@
+-- As many fields as the mnemonic takes are judged (`fields-judged`); any other number is refused (`fields-wrong`).
 use mathlib.Core.Path.{sym, _∙_}
 use Rattle.lines.proofs.Walking.{fields-judged, fields-wrong}
 use borrow.Author.Needs.{needs}

@@ -1,3 +1,4 @@
+-- A comma behind the mnemonic, none, or a channel that the model lacks (`known-more`, `known-alone`, `known-not`).
 use Prim.Native.Nat.{_<_, _≤_}
 use mathlib.Core.Path.{_∙_}
 use lib.ListN.{drop}

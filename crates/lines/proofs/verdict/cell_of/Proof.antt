@@ -1,3 +1,4 @@
+-- The cell that is held; a field at fault, of form or of value, gives a plain 0.
 use borrow.Author.Needs.{needs}
 use Rattle.lines.proofs.verdict.cell_of.Statement.{statement}
 use Rattle.lines.proofs.verdict.cell_of.Tie as tie

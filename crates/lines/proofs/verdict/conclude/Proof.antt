@@ -1,3 +1,4 @@
+-- The calls nest as `formed` and `valued` do: the form of all three fields decides before the value of any.
 use Rattle.lines.specs.Judging.{formed, valued}
 use borrow.Author.Needs.{needs}
 use Rattle.lines.proofs.verdict.conclude.Statement.{statement}

@@ -1,3 +1,4 @@
+-- A malformed field makes the verdict a refusal for syntax; any other field leaves it as it was.
 use borrow.Author.Needs.{needs}
 use Rattle.lines.proofs.verdict.form_or.Statement.{statement}
 use Rattle.lines.proofs.verdict.form_or.Tie as tie

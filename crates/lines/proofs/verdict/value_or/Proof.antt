@@ -1,3 +1,4 @@
+-- A fault of value makes the verdict a refusal with that fault; any other field leaves it as it was.
 use borrow.Author.Needs.{needs}
 use Rattle.lines.proofs.verdict.value_or.Statement.{statement}
 use Rattle.lines.proofs.verdict.value_or.Tie as tie

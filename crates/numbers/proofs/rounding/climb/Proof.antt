@@ -1,4 +1,4 @@
--- `digits::climb`: the tens counted, and those still to count, are those of the definition.
+-- `rounding::climb`: the tens counted, and those still to count, are those of the definition.
 use Prim.Native.Nat.{_≤_, _+_, _-_, _*_, _^_}
 use mathlib.Core.Path.{_≡_, sym}
 use native.Mathlib.Nat.{mul-one}

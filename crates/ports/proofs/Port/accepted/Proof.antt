@@ -1,3 +1,4 @@
+-- What the mnemonic selects, with the error word as it was.
 use borrow.Author.Needs.{needs}
 use Rattle.ports.proofs.Port.accepted.Statement.{statement}
 use Rattle.ports.proofs.Port.accepted.Tie as tie

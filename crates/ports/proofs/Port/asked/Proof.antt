@@ -1,3 +1,4 @@
+-- The event is what `enquiry` tells and the port what `enquired` leaves, both of the port as it came.
 use borrow.Author.Needs.{needs}
 use Rattle.ports.proofs.Port.asked.Statement.{statement}
 use Rattle.ports.proofs.Port.asked.Tie as tie

@@ -1,3 +1,4 @@
+-- Each arm is one clause of `byKind`; all but CR and ENQ are quiet.
 use Rattle.ports.specs.Hearing.{byKind}
 use borrow.Author.Needs.{needs}
 use Rattle.ports.proofs.Port.by_kind.Statement.{statement}

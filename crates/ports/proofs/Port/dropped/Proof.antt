@@ -1,3 +1,4 @@
+-- The line emptied, no selection, and the error word that is given.
 use borrow.Author.Needs.{needs}
 use Rattle.ports.proofs.Port.dropped.Statement.{statement}
 use Rattle.ports.proofs.Port.dropped.Tie as tie

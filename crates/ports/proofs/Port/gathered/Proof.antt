@@ -1,3 +1,4 @@
+-- Past at least one byte the port is settled and its line as gathered; past none it is as it was.
 use borrow.Author.Tests.{lt-ltb, le-ltb}
 use Rattle.ports.proofs.Port.gathered.Statement.{statement}
 use Rattle.ports.proofs.Port.gathered.Tie as tie

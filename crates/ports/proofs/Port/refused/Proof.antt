@@ -1,3 +1,4 @@
+-- No selection, and the error word with the digit of the fault set.
 use borrow.Author.Needs.{needs}
 use Rattle.ports.proofs.Port.refused.Statement.{statement}
 use Rattle.ports.proofs.Port.refused.Tie as tie

@@ -1,3 +1,4 @@
+-- The mark cleared, then the stream stopped.
 use borrow.Author.Needs.{needs}
 use Rattle.ports.proofs.Port.settled.Statement.{statement}
 use Rattle.ports.proofs.Port.settled.Tie as tie

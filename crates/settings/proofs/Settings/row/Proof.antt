@@ -1,3 +1,4 @@
+-- The setting tells the case, and its row is made of its numbers or of its switching function.
 use borrow.Author.Needs.{needs}
 use Rattle.settings.proofs.Settings.row.Statement.{statement}
 use Rattle.settings.proofs.Settings.row.Tie as tie

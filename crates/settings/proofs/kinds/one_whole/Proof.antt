@@ -1,3 +1,4 @@
+-- One field, a whole number from least to most.
 use borrow.Author.Needs.{needs}
 use Rattle.settings.proofs.kinds.one_whole.Statement.{statement}
 use Rattle.settings.proofs.kinds.one_whole.Tie as tie

@@ -1,3 +1,4 @@
+-- The kind tells the case: the limits of a whole number or a factor, or the stops of a threshold.
 use borrow.Author.Needs.{needs}
 use Rattle.settings.proofs.limits.fits.Statement.{statement}
 use Rattle.settings.proofs.limits.fits.Tie as tie

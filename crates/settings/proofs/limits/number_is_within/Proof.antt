@@ -1,3 +1,4 @@
+-- The test of a place, over both numbers as plain cells.
 use borrow.Author.Needs.{needs}
 use Rattle.settings.proofs.limits.number_is_within.Statement.{statement}
 use Rattle.settings.proofs.limits.number_is_within.Tie as tie

@@ -1,3 +1,4 @@
+-- The two numbers of the pair, and a third that is 0, are each tested beside their default.
 use borrow.Author.Needs.{needs}
 use Rattle.settings.proofs.limits.pair_is_within.Statement.{statement}
 use Rattle.settings.proofs.limits.pair_is_within.Tie as tie

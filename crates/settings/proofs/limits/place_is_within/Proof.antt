@@ -1,3 +1,4 @@
+-- The test is whether the cell fits its field or, where there is no field, whether it is the default.
 use borrow.Author.Needs.{needs}
 use Rattle.settings.proofs.limits.place_is_within.Statement.{statement}
 use Rattle.settings.proofs.limits.place_is_within.Tie as tie

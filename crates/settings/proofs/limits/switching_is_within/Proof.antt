@@ -1,3 +1,4 @@
+-- The assignment and the two thresholds are each tested by their kind, beside their default.
 use borrow.Author.Needs.{needs}
 use Rattle.settings.proofs.limits.switching_is_within.Statement.{statement}
 use Rattle.settings.proofs.limits.switching_is_within.Tie as tie

@@ -1,3 +1,4 @@
+-- Each cell is that of a where its place is below n, and that of b elsewhere.
 use borrow.Author.Needs.{needs}
 use Rattle.settings.proofs.rows.mixed.Statement.{statement}
 use Rattle.settings.proofs.rows.mixed.Tie as tie

@@ -1,3 +1,4 @@
+-- Both numbers and a 0, each as a plain cell.
 use borrow.Author.Needs.{needs}
 use Rattle.settings.proofs.rows.pair_row.Statement.{statement}
 use Rattle.settings.proofs.rows.pair_row.Tie as tie

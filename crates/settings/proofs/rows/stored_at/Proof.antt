@@ -1,3 +1,4 @@
+-- The entry of the array, and past its end 0 (`List·getD-eq-default`).
 use mathlib.Core.Path.{_≡_, sym}
 use lib.ListN.{length, List·getD-eq-default}
 use borrow.Author.Needs.{needs}

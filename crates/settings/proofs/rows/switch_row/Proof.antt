@@ -1,3 +1,4 @@
+-- The cells of the function at that place, and past the last one a row of zeros (`List·getD-eq-default`).
 use mathlib.Core.Path.{_≡_, sym, ap, _∙_}
 use lib.ListN.{length, List·getD-eq-default}
 use Rattle.settings.specs.Rows.{noSwitching, cellsOf}

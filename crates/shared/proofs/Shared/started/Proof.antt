@@ -1,3 +1,4 @@
+-- The settings are the saved set, there is no reading, and each switch is as its assignment starts.
 use borrow.Author.Needs.{needs}
 use Rattle.shared.proofs.Shared.started.Statement.{statement}
 use Rattle.shared.proofs.Shared.started.Tie as tie

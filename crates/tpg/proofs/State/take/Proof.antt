@@ -1,3 +1,4 @@
+-- The shared part takes the reading, the port stays as it was, and the counts are 0.
 use borrow.Author.Needs.{needs}
 use Rattle.tpg.proofs.State.take.Statement.{statement}
 use Rattle.tpg.proofs.State.take.Tie as tie

@@ -1,3 +1,4 @@
+-- A box started with the defaults of its model, handed back with the answer.
 use borrow.Author.Needs.{needs}
 use Rattle.tpg.proofs.calls.made.Statement.{statement}
 use Rattle.tpg.proofs.calls.made.Tie as tie

@@ -1,3 +1,4 @@
+-- Each fault sets its own digit, and the other two stay.
 use borrow.Author.Needs.{needs}
 use Rattle.lines.proofs.word.Word.with.Statement.{statement}
 use Rattle.lines.proofs.word.Word.with.Tie as tie

@@ -1,3 +1,4 @@
+-- An assignment from 2 on agrees with either status, one below only with what it starts with.
 use borrow.Author.Needs.{needs}
 use Rattle.settings.proofs.model.Model.agrees.Statement.{statement}
 use Rattle.settings.proofs.model.Model.agrees.Tie as tie

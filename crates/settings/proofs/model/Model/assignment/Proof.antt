@@ -1,3 +1,4 @@
+-- A whole number from 0 to 3, of which a 361 has the 3 only within its reach.
 use borrow.Author.Needs.{needs}
 use Rattle.settings.proofs.model.Model.assignment.Statement.{statement}
 use Rattle.settings.proofs.model.Model.assignment.Tie as tie

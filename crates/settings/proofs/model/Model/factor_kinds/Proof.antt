@@ -1,3 +1,4 @@
+-- A factor for each channel.
 use borrow.Author.Needs.{needs}
 use Rattle.settings.proofs.model.Model.factor_kinds.Statement.{statement}
 use Rattle.settings.proofs.model.Model.factor_kinds.Tie as tie

@@ -1,3 +1,4 @@
+-- The first seventeen are those of the sheet (`known-sheet`), and behind them stand the others (`known-others`).
 use mathlib.Core.Path.{ap, _∙_}
 use Rattle.settings.specs.declared.mnemonic.Mnemonic.the-variants.{Setting as Of}
 use Rattle.settings.proofs.Names.{known-sheet, known-others}

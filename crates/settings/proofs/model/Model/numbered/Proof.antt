@@ -1,3 +1,4 @@
+-- 361 and 362 give their models, and any other number gives none.
 use borrow.Author.Tests.{eq-eqb, ne-eqb}
 use Rattle.settings.proofs.model.Model.numbered.Statement.{statement}
 use Rattle.settings.proofs.model.Model.numbered.Tie as tie

@@ -1,3 +1,4 @@
+-- One field of the kind on a 361, and two of it on a 362.
 use borrow.Author.Needs.{needs}
 use Rattle.settings.proofs.model.Model.per_channel.Statement.{statement}
 use Rattle.settings.proofs.model.Model.per_channel.Tie as tie

@@ -1,3 +1,4 @@
+-- The setting tells the case, and the callee of each gives its kinds.
 use borrow.Author.Needs.{needs}
 use Rattle.settings.proofs.model.Model.setting_kinds.Statement.{statement}
 use Rattle.settings.proofs.model.Model.setting_kinds.Tie as tie

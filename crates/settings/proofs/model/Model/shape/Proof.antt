@@ -1,3 +1,4 @@
+-- The mnemonic tells the case: the kinds of its setting, one field, or none.
 use borrow.Author.Needs.{needs}
 use Rattle.settings.proofs.model.Model.shape.Statement.{statement}
 use Rattle.settings.proofs.model.Model.shape.Tie as tie

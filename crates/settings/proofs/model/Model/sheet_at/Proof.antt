@@ -1,3 +1,4 @@
+-- The entry of the table, and past its end the first setting (`List·getD-eq-default`).
 use mathlib.Core.Path.{sym}
 use lib.ListN.{List·getD-eq-default}
 use Rattle.settings.specs.Mnemonics.{sheet}

@@ -1,3 +1,4 @@
+-- The model's assignment and two thresholds.
 use borrow.Author.Needs.{needs}
 use Rattle.settings.proofs.model.Model.switching_kinds.Statement.{statement}
 use Rattle.settings.proofs.model.Model.switching_kinds.Tie as tie

@@ -1,3 +1,4 @@
+-- A whole number from least to most for each channel.
 use borrow.Author.Needs.{needs}
 use Rattle.settings.proofs.model.Model.whole_per_channel.Statement.{statement}
 use Rattle.settings.proofs.model.Model.whole_per_channel.Tie as tie

@@ -9,9 +9,9 @@ use borrow.Rule.Slice.PartMut.{putMid}
 use lib.ListN.{length, take, drop, length-append, length-drop, drop-of-length-le}
 use lib.Seq.{length-take-le, take-all, drop-drop}
 use Rattle.text.specs.Spans.{until}
-use Rattle.tpg.specs.Steps.{over, laidAt}
+use Rattle.tpg.specs.Steps.{over}
+use Rattle.tpg.proofs.Laying.{laidAt, laid-length, laid-more, laid-nothing}
 use Rattle.tpg.specs.declared.State.{State}
-use Rattle.tpg.proofs.Laying.{laid-length, laid-more, laid-nothing}
 use Rattle.frames.specs.Frames.{reply, lineOf, longestLine, answerCall, answerLine}
 use Rattle.frames.specs.declared.Answered.{Answered}
 use Rattle.frames.proofs.Bounds.{line-fits}

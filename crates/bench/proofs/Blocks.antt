@@ -6,7 +6,7 @@ use native.Mathlib.Omega.{arith}
 use native.Mathlib.Numerals.{add-one}
 use lib.ListN.{length, getD, set, take, drop, length-set, length-drop}
 use lib.Seq.{take-suc-set, take-suc, drop-set-lt, drop-drop, getD-drop}
-use Rattle.bench.specs.Lines.{mostKept}
+use Rattle.bench.specs.Walk.{mostKept}
 
 -- what is read and what is written at once
 abbrev pub blockSize : ℕ

@@ -8,7 +8,7 @@ use native.Mathlib.Omega.{arith}
 use lib.ListN.{length, take, drop, length-drop}
 use lib.Seq.{length-take-le, drop-drop}
 use lib.Dec.{eqb}
-use Rattle.numbers.proofs.Cases.{below, never, cond-cases}
+use Rattle.ground.proofs.Cases.{below, never, cond-cases}
 use Rattle.text.specs.Spans.{until}
 use Rattle.text.proofs.Marks.{until-few}
 use Rattle.bench.specs.Lines.{onNext, finished, behindLines}

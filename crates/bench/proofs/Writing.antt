@@ -7,7 +7,7 @@ use native.Mathlib.Nat.{zero-add, add-zero}
 use lib.ListN.{length, take, drop, length-append, length-drop}
 use lib.Seq.{take-all, drop-drop}
 use lib.Dec.{leb}
-use Rattle.numbers.proofs.Cases.{cond-cases}
+use Rattle.ground.proofs.Cases.{cond-cases}
 use Rattle.tpg.specs.Steps.{over}
 use Rattle.tpg.specs.declared.State.{State}
 use Rattle.frames.specs.Frames.{reply, lineOf, longestLine, answerCall}

@@ -1,11 +1,12 @@
 -- Lines in a block of input (01, "The bench program": "one frame a line").
-use Prim.Native.Nat.{ℕ, _+_, _*_, _-_, min}
+use Prim.Native.Nat.{ℕ, _+_, _-_}
 use mathlib.Core.List.{List, [], _∷_, _++_}
 use mathlib.Core.Bool.{cond}
 use lib.ListN.{length}
 use lib.Dec.{leb, eqb}
+use Rattle.text.specs.Control.{lf}
 use Rattle.tpg.specs.declared.State.{State}
-use Rattle.frames.specs.Frames.{longestFrame, longestLine, reply, lineOf}
+use Rattle.frames.specs.Frames.{longestLine, reply, lineOf}
 
 -- a byte in front of the next finished line; where there is none, the byte's own line is not finished
 abbrev pub onNext : ℕ → List (List ℕ) → List (List ℕ)
@@ -15,7 +16,7 @@ onNext b (l ∷ ls) = (b ∷ l) ∷ ls
 -- "one frame a line": the finished lines of a block, each without the LF that ends it
 unfoldable pub finished : List ℕ → List (List ℕ)
 finished [] = []
-finished (b ∷ s) = cond (eqb b 10) ([] ∷ finished s) (onNext b (finished s))
+finished (b ∷ s) = cond (eqb b lf) ([] ∷ finished s) (onNext b (finished s))
 
 -- the place behind lines and their LFs
 unfoldable pub behindLines : List (List ℕ) → ℕ
@@ -36,11 +37,3 @@ linesText s (l ∷ ls) = lineOf (reply s l) ++ linesText (reply s l .state) ls
 unfoldable pub fitting : State → List (List ℕ) → ℕ → List (List ℕ)
 fitting s [] free = []
 fitting s (l ∷ ls) free = cond (leb longestLine free) (l ∷ fitting (reply s l .state) ls (free - length (lineOf (reply s l)))) []
-
--- of an unfinished line one digit more is kept than the longest frame has, so that it stays too long
-abbrev pub mostKept : ℕ
-mostKept = 2 * longestFrame + 1
-
--- how much is kept of a line that the block breaks off
-abbrev pub keptCount : ℕ → ℕ → ℕ
-keptCount from end = min (end - from) mostKept

@@ -4,15 +4,15 @@ ghost use Prim.Native.Nat.{_≤_};
 ghost use lib.ListN.{length, take, drop};
 ghost use Rattle.tpg.specs.Steps.{over};
 ghost use Rattle.frames.specs.Frames.{longestLine};
-ghost use Rattle.bench.specs.Lines.{finished, behindLines, afterLines, linesText, fitting, keptCount};
+ghost use Rattle.bench.specs.Lines.{finished, behindLines, afterLines, linesText, fitting};
+ghost use Rattle.bench.specs.Walk.{keptCount};
 use frames::LONGEST_FRAME;
 use frames::LONGEST_LINE;
 use libc::STDIN_FILENO;
 use libc::STDOUT_FILENO;
+use text::control::LF;
 use text::spans::end_of;
 use tpg::State;
-
-const LF: u8 = 10;
 
 // Of an unfinished line so much is kept: one digit more than the longest frame has, so that it stays too long.
 const KEPT: usize = 2 * LONGEST_FRAME + 1;

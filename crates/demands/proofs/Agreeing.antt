@@ -3,7 +3,7 @@ use Prim.Native.Nat.{ℕ, _+_}
 use mathlib.Core.Path.{_≡_, refl, sym, ap, ap₂, _∙_}
 use mathlib.Core.List.{List, [], _∷_, _++_, flatMap, append-cancel-right}
 use mathlib.Core.Bool.{true}
-use Rattle.settings.specs.Lists.{every, Each}
+use Rattle.ground.specs.Members.{every, Each}
 use Rattle.lines.specs.Judging.{judged}
 use Rattle.lines.specs.declared.word.Word.{Word}
 use Rattle.ports.specs.Line.{isEmpty}
@@ -12,7 +12,7 @@ use Rattle.shared.specs.declared.Shared.{Shared}
 use Rattle.tpg.specs.States.{Sound}
 use Rattle.tpg.specs.Steps.{after, said}
 use Rattle.tpg.specs.declared.State.{State}
-use Rattle.demands.specs.Wire.{nak, Inner, undropped, isGood, lineIn, cr, Start, onEmpty, afterEtx, Ready, Way, sending, asOften, answered, errorLeft}
+use Rattle.demands.specs.Wire.{nakLine, Inner, undropped, isGood, lineIn, byCr, Start, onEmpty, afterEtx, Ready, Way, sending, asOften, answered, errorLeft}
 use Rattle.demands.specs.Replies.{Says, Becomes}
 use Rattle.demands.specs.Demands.{Meets, Spoken, conversation}
 use Rattle.demands.proofs.Handing.{bytes-meet}
@@ -25,9 +25,9 @@ ready s e afterEtx = tt
 module _ (says : Says) (becomes : Becomes) (meets : Meets says becomes) where
   -- an empty line, refused
   abbrev refusing : Way
-  refusing = record { start = afterEtx; end = cr; enqs = 0 }
+  refusing = record { start = afterEtx; end = byCr; enqs = 0 }
 
-  refused : (s : State) → Sound s → says s (sending refusing []) ≡ nak
+  refused : (s : State) → Sound s → says s (sending refusing []) ≡ nakLine
   unfolding judged isGood undropped every asOften
   refused s k = meets .answers s k refusing tt [] tt
 
@@ -35,7 +35,7 @@ module _ (says : Says) (becomes : Becomes) (meets : Meets says becomes) where
   nothing-said : (s : State) → Sound s → says s [] ≡ []
   nothing-said s k =
       let now = becomes s [] in
-      append-cancel-right (says s []) [] nak
+      append-cancel-right (says s []) [] nakLine
       (ap (λ (t : List ℕ). says s [] ++ t) (sym (refused now (meets .keeps s k [] .0))) ∙ sym (meets .splits s k [] (sending refusing []) .0) ∙ refused s k)
 
 -- two boxes that answer alike: an empty line, and the same settings, readings and error word

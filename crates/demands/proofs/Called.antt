@@ -8,10 +8,10 @@ use borrow.Author.Tests.{ltb-true, ltb-false, lt-leb, le-leb}
 use lib.ListN.{length, drop}
 use lib.Seq.{drop-append-seam}
 use lib.Dec.{eqb, leb, ltb}
-use Rattle.numbers.proofs.Cases.{never, cond-cases}
+use Rattle.ground.proofs.Cases.{never, cond-cases}
 use Rattle.gauges.specs.Readings.{withinLimits}
 use Rattle.gauges.specs.declared.reading.Reading.{Reading}
-use Rattle.settings.specs.Lists.{Each}
+use Rattle.ground.specs.Members.{Each}
 use Rattle.settings.specs.Models.{modelOf}
 use Rattle.settings.specs.declared.model.Model.{Model}
 use Rattle.settings.specs.declared.model.Model.the-variants.{Tpg361, Tpg362}
@@ -37,7 +37,7 @@ use Rattle.tpg.proofs.Refusals.{roomed-back, reading-back, cycle-back, untouche
 use Rattle.tpg.proofs.Kept as kept
 use Rattle.tpg.proofs.Kept.{after-model}
 use Rattle.demands.specs.Calls.{Call, byte, host, reading, tick, ticks, cycle, outcome, bytes, Refusal, row, lent, refusals, freshRefusals, firstGiven, afterCalls}
-use Rattle.demands.specs.Wire.{nak, cr, ended}
+use Rattle.demands.specs.Wire.{nakLine, byCr, ended}
 use Rattle.demands.specs.Sheets.{Boxes}
 
 -- ---- the table
@@ -157,23 +157,23 @@ call-beyond s c out = rw (call-writes s c) (drop-append-seam (bytes s c) (drop (
 -- ---- what a refused line leaves alone
 
 -- a line that is answered NAK changes nothing
-nak-keeps : (s : Shared) (v : Verdict) → lineText v ≡ nak → heard s v ≡ s
+nak-keeps : (s : Shared) (v : Verdict) → lineText v ≡ nakLine → heard s v ≡ s
 nak-keeps s (Asks m) e = refl
 nak-keeps s (Writes m r) e = never (cc)
 nak-keeps s (Refused x) e = refl
 
 -- every byte but the CR of an accepted line leaves settings, saved set, readings and switches as they were
-pub byte-keeps : (s : State) (b : ℕ) → (b ≡ 13 → sent s b ≡ nak) → next s b .shared ≡ s .shared
+pub byte-keeps : (s : State) (b : ℕ) → (b ≡ 13 → sent s b ≡ nakLine) → next s b .shared ≡ s .shared
 unfolding next sent eventText
 byte-keeps s b =
-    heard-event (λ (e : Event). (b ≡ 13 → eventText (s .shared) e ≡ nak) → acted (s .shared) e ≡ s .shared) (s .shared .model) (s .port) b
-    (λ _. refl) (λ cr refused. nak-keeps (s .shared) (judged (s .shared .model) (held (s .port))) (refused cr)) (λ _. refl) (λ m _ _. refl)
+    heard-event (λ (e : Event). (b ≡ 13 → eventText (s .shared) e ≡ nakLine) → acted (s .shared) e ≡ s .shared) (s .shared .model) (s .port) b
+    (λ _. refl) (λ byCr refused. nak-keeps (s .shared) (judged (s .shared .model) (held (s .port))) (refused byCr)) (λ _. refl) (λ m _ _. refl)
 
 -- "A refused line leaves settings, saved set and readings as they were", over all its bytes
-pub refused-line : (s : State) (l : List ℕ) → Each (λ b. b ≢ 13) l → sent (after s l) 13 ≡ nak → after s (ended cr l) .shared ≡ s .shared
+pub refused-line : (s : State) (l : List ℕ) → Each (λ b. b ≢ 13) l → sent (after s l) 13 ≡ nakLine → after s (ended byCr l) .shared ≡ s .shared
 unfolding after
 refused-line s [] others refused = byte-keeps s 13 (λ _. refused)
-refused-line s (b ∷ bs) others refused = refused-line (next s b) bs (others .1) refused ∙ byte-keeps s b (λ cr. absurd (others .0 cr))
+refused-line s (b ∷ bs) others refused = refused-line (next s b) bs (others .1) refused ∙ byte-keeps s b (λ byCr. absurd (others .0 byCr))
 
 -- ---- the limits
 

@@ -3,18 +3,17 @@
 use Prim.Native.Nat.{ℕ, zero, suc, _+_, _<_}
 use mathlib.Core.Path.{_≡_, refl, sym, ap, ap₂, subst, _∙_}
 use mathlib.Core.List.{List, [], _∷_, _++_, map, flatMap, append-assoc, append-nil}
-use mathlib.Core.Bool.{true}
+use mathlib.Core.Bool.{true, and-eq-true-iff}
 use mathlib.Core.Logic.{_≢_}
 use native.Mathlib.Omega.{arith}
 use borrow.Author.Tests.{lt-ltb, ne-eqb}
 use lib.ListN.{length, take, drop}
 use lib.Seq.{drop-append-seam, drop-drop}
-use Rattle.numbers.proofs.Cases.{and-true}
 use Rattle.text.specs.Spans.{until}
 use Rattle.settings.specs.Models.{channels}
 use Rattle.settings.specs.Mnemonics.{sheet, name}
 use Rattle.settings.specs.Rows.{cells}
-use Rattle.settings.specs.Lists.{Each}
+use Rattle.ground.specs.Members.{Each}
 use Rattle.settings.specs.Limits.{within}
 use Rattle.settings.specs.declared.model.Model.{Model}
 use Rattle.settings.specs.declared.model.Model.the-variants.{Tpg361, Tpg362}
@@ -23,10 +22,11 @@ use Rattle.settings.specs.declared.mnemonic.Mnemonic.{Mnemonic}
 use Rattle.settings.specs.declared.mnemonic.Mnemonic.the-variants.{Setting as Of}
 use Rattle.settings.specs.declared.rows.Row.{Row}
 use Rattle.settings.specs.declared.Settings.{Settings}
-use Rattle.settings.proofs.Lists.{each-map, each-both, each-take}
+use Rattle.ground.proofs.Members.{each-map, each-both, each-take}
 use Rattle.settings.proofs.Sheets.{sheet-each}
 use Rattle.lines.specs.Judging.{rowOf, judged, effect}
-use Rattle.lines.specs.Replies.{settingText, lineEnd}
+use Rattle.lines.specs.Replies.{settingText}
+use Rattle.text.specs.Control.{crLf}
 use Rattle.lines.specs.Sheets.{lineOf, after as afterLines}
 use Rattle.lines.specs.declared.word.Word.{Word}
 use Rattle.lines.specs.declared.verdict.Verdict.{Verdict}
@@ -45,7 +45,7 @@ use Rattle.tpg.specs.Steps.{next, after, said}
 use Rattle.tpg.specs.declared.State.{State}
 use Rattle.tpg.proofs.Runs.{after-append, said-append}
 use Rattle.tpg.proofs.Kept.{heard-model, after-sound, after-model}
-use Rattle.demands.specs.Wire.{ack, End, ended, anew, enquiries, asOften}
+use Rattle.demands.specs.Wire.{ackLine, End, ended, anew, enquiries, asOften}
 use Rattle.demands.specs.Sheets.{boxModel, boxSettings, Boxes, questions, sheetAsked, replies, firstLine, behindLine, copyLines, copyOf, linesSent, acks, SheetRead, SheetCopied, SheetCut, SheetsDecide}
 use Rattle.demands.proofs.Ending.{Line}
 use Rattle.demands.proofs.Typing.{line-judged, line-enquired, line-left, anew-line, anew-shared, anew-said, anew-after}
@@ -75,9 +75,9 @@ module _ (e : End) (shared : Shared) where
       let inner = typeable-inner (name (Of x)) t in
       let one = line-left s empty (name (Of x)) inner (Asks (Of x)) asks e 1 in
       let all = inquired xs (after s bytes) (one .0 ∙ same) (one .1) (h .1) in
-      let text : said s bytes ≡ ack ++ replyText shared error (Of x) =
-      line-enquired s empty (name (Of x)) inner (Asks (Of x)) asks e 1 ∙ ap (λ (t : List ℕ). ack ++ t) (append-nil (replyText (s .shared) error (Of x)))
-      ∙ ap (λ (t : Shared). ack ++ replyText t error (Of x)) same in (
+      let text : said s bytes ≡ ackLine ++ replyText shared error (Of x) =
+      line-enquired s empty (name (Of x)) inner (Asks (Of x)) asks e 1 ∙ ap (λ (t : List ℕ). ackLine ++ t) (append-nil (replyText (s .shared) error (Of x)))
+      ∙ ap (λ (t : Shared). ackLine ++ replyText t error (Of x)) same in (
         said-append bytes rest s ∙ ap₂ (λ (t u : List ℕ). t ++ u) text (all .0),
         ap (λ (t : State). t .shared) (after-append bytes rest s) ∙ all .1,
       )
@@ -106,7 +106,7 @@ lines-copied model a (x ∷ xs) =
     let t = settingText model a x in
     let rest = replies model a xs in
     let plain = no-cr t (setting-characters model a x) in
-    rw (append-assoc t lineEnd rest, behind-line t rest plain, first-line t rest plain, lines-copied model a xs)
+    rw (append-assoc t crLf rest, behind-line t rest plain, first-line t rest plain, lines-copied model a xs)
 
 -- ---- the lines of a sheet
 
@@ -174,7 +174,7 @@ sheet-asked model =
 
 settings-within : (s : State) → Sound s → within (boxModel s) (boxSettings s) ≡ true
 unfolding stateWithin
-settings-within s k = shared.parts (s .shared) (and-true (sharedWithin (s .shared)) (portWithin (boxModel s) (s .port)) (k .within) .0) .settings
+settings-within s k = shared.parts (s .shared) (and-eq-true-iff (sharedWithin (s .shared)) (portWithin (boxModel s) (s .port)) .0 (k .within) .0) .settings
 
 sheet-sent : (a : State) → Sound a → Each (Sent (boxModel a) (boxSettings a)) (sheet (boxModel a))
 sheet-sent a k =
@@ -286,7 +286,7 @@ replies-texts model a b (x ∷ xs) e =
     let t = settingText model a x in
     let u = settingText model b x in
     let f : t ++ (13 ∷ 10 ∷ replies model a xs) ≡ u ++ (13 ∷ 10 ∷ replies model b xs) =
-    sym (append-assoc t lineEnd (replies model a xs)) ∙ ap (drop 3) e ∙ append-assoc u lineEnd (replies model b xs) in
+    sym (append-assoc t crLf (replies model a xs)) ∙ ap (drop 3) e ∙ append-assoc u crLf (replies model b xs) in
     let p = no-cr t (setting-characters model a x) in
     let q = no-cr u (setting-characters model b x) in
     let first : t ≡ u = sym (first-line t (replies model a xs) p) ∙ ap firstLine f ∙ first-line u (replies model b xs) q in

@@ -5,7 +5,7 @@ use mathlib.Core.List.{List, []}
 use mathlib.Core.Bool.{Bool, true, false, cond, not, _&&_, _||_, and-false}
 use lib.ListN.{length, take}
 use lib.Dec.{eqb}
-use Rattle.numbers.proofs.Cases.{cond-cases}
+use Rattle.ground.proofs.Cases.{cond-cases}
 use Rattle.settings.specs.Mnemonics.{hasReply, isErr}
 use Rattle.settings.specs.Rows.{number}
 use Rattle.settings.specs.declared.model.Model.{Model}
@@ -20,7 +20,8 @@ use Rattle.lines.specs.declared.verdict.Verdict.{Verdict}
 use Rattle.lines.specs.declared.verdict.Verdict.the-variants.{Asks, Writes, Refused}
 use Rattle.ports.specs.Line.{emptied, held, isEmpty}
 use Rattle.ports.specs.Stream.{intervalOf, withStream, begun}
-use Rattle.ports.specs.Hearing.{kindOf, withMark, withChoice, selected, concluded, answered, replied, asked, quiet, byKind, heard as portHeard, settled}
+use Rattle.ports.specs.Hearing.{kindOf, withMark, withChoice, selected, concluded, answered, replied, asked, quiet, byKind, heard as portHeard}
+use Rattle.ports.specs.Walk.{settled}
 use Rattle.ports.specs.declared.Heard.{Heard}
 use Rattle.ports.specs.declared.Port.{Port}
 use Rattle.ports.specs.declared.Selection.{Selection}

@@ -8,7 +8,7 @@ use mathlib.Core.Logic.{_≢_}
 use native.Mathlib.Omega.{arith}
 use borrow.Author.Tests.{not-true, eq-eqb, lt-ltb}
 use lib.ListN.{getD, take, drop}
-use Rattle.numbers.proofs.Cases.{never}
+use Rattle.ground.proofs.Cases.{never}
 use Rattle.text.specs.Text.{ascii}
 use Rattle.text.specs.Digits.{bare}
 use Rattle.numbers.specs.Rounding.{climbWithin, five, power, rounded, fittedTo}
@@ -16,7 +16,7 @@ use Rattle.numerals.specs.Digits.{lead, rest, headIs, value}
 use Rattle.numerals.specs.Whole.{numberOf, behindPoint, factorOf}
 use Rattle.numerals.specs.Threshold.{afterPlus, afterSign, powerOf, judged as judgedNumeral, fraction, afterFraction, thresholdOf}
 use Rattle.numerals.specs.Writing.{scientific}
-use Rattle.settings.specs.Lists.{every, Each}
+use Rattle.ground.specs.Members.{every, Each}
 use Rattle.settings.specs.Models.{channels, defaults}
 use Rattle.settings.specs.Mnemonics.{sheet, known, name, same, found, recognised}
 use Rattle.settings.specs.Kinds.{storedKinds, kinds}
@@ -29,14 +29,15 @@ use Rattle.settings.specs.declared.mnemonic.Mnemonic.{Mnemonic}
 use Rattle.settings.specs.declared.mnemonic.Mnemonic.the-variants.{Setting as Of}
 use Rattle.settings.specs.declared.rows.Row.{Row}
 use Rattle.settings.specs.declared.Settings.{Settings}
-use Rattle.settings.proofs.Lists.{each-map, each-both, every-each}
+use Rattle.ground.proofs.Members.{each-map, each-both, every-each}
 use Rattle.settings.proofs.Storing.{Holding}
 use Rattle.settings.proofs.Storing.Holding.{uni, fil}
 use Rattle.settings.proofs.Sheets.{sheet-holding, on-sheet, sheet-each}
 use Rattle.lines.specs.Splitting.{fields, joined}
 use Rattle.lines.specs.Fields.{limited}
 use Rattle.lines.specs.Judging.{readings, formed, valued, withFields, judged}
-use Rattle.lines.specs.Replies.{texts, settingText, lineEnd}
+use Rattle.lines.specs.Replies.{texts, settingText}
+use Rattle.text.specs.Control.{crLf}
 use Rattle.lines.specs.declared.word.Word.{Word}
 use Rattle.lines.specs.declared.verdict.Verdict.{Verdict}
 use Rattle.lines.specs.declared.verdict.Verdict.the-variants.{Asks, Writes, Refused}
@@ -49,7 +50,7 @@ use Rattle.tpg.specs.States.{freshBox, Sound}
 use Rattle.tpg.specs.Steps.{eventText, next, sent, after}
 use Rattle.tpg.specs.declared.State.{State}
 use Rattle.tpg.proofs.Kept.{fresh-sound, after-sound, after-model}
-use Rattle.demands.specs.Wire.{Inner, lineIn, cr, ended, Ready, Way, sending, asOften, answered}
+use Rattle.demands.specs.Wire.{Inner, lineIn, byCr, ended, Ready, Way, sending, asOften, answered}
 use Rattle.demands.specs.Replies.{Says, Becomes, Reads, Replies}
 use Rattle.demands.specs.Sheets.{boxModel, boxSettings, Boxes, firstLine, copyOf, linesSent}
 use Rattle.demands.specs.Demands.{Meets, NaksAll, once, told, BlindToLines, BlindToStates, Forgets, SilentBut}
@@ -69,7 +70,7 @@ pub naks-all : (says : Says) (becomes : Becomes) → Meets says becomes → Naks
 unfolding flatMap
 naks-all says becomes meets naks =
     let a = fresh Tpg362 in
-    subst (Each (λ (b : ℕ). b ≢ 6)) (meets .copied a a (alike Tpg362) cr cr .0) (naks a (linesSent cr (copyOf says cr a))) .0 refl
+    subst (Each (λ (b : ℕ). b ≢ 6)) (meets .copied a a (alike Tpg362) byCr byCr .0) (naks a (linesSent byCr (copyOf says byCr a))) .0 refl
 
 -- ---- boxes that differ
 
@@ -84,7 +85,7 @@ others (Stored k) = getD ("1" ∷ "1" ∷ "1" ∷ "1" ∷ "2" ∷ "1" ∷ "1" �
 
 -- a box that was sent them
 changed : Model → Setting → State
-changed model x = after (fresh model) (ended cr (joined (name (Of x) ∷ take (count model x) (map ascii (others x)))))
+changed model x = after (fresh model) (ended byCr (joined (name (Of x) ∷ take (count model x) (map ascii (others x)))))
 
 -- is not what it was
 moved : Model → Setting → Bool
@@ -120,13 +121,13 @@ apart t u differs e = let d : same t u ≡ false = not-true (same t u) differs i
 -- ---- one that always sends the same reply
 
 -- what is told of a setting is its text
-told-text : (says : Says) → Replies says → (s : State) → Sound s → (x : Setting) → Holding x → told says s (Of x) ≡ settingText (boxModel s) (boxSettings s) x ++ lineEnd
+told-text : (says : Says) → Replies says → (s : State) → Sound s → (x : Setting) → Holding x → told says s (Of x) ≡ settingText (boxModel s) (boxSettings s) x ++ crLf
 unfolding asOften replyText
 told-text says replies s k x h =
     let reads = each-map _ (λ (m : Mnemonic). Reads says s m) (λ m both. both .0) (known (boxModel s)) (replies s k) in
     let text = settingText (boxModel s) (boxSettings s) x in
     ap (drop 3) (on-sheet (λ (x : Setting). Reads says s (Of x)) (boxModel s) (sheet-each (λ (m : Mnemonic). Reads says s m) (boxModel s) reads) x h refl once tt)
-    ∙ rw (lt-ltb 0 (channels (boxModel s)) (some-channel (boxModel s))) (append-nil (text ++ lineEnd))
+    ∙ rw (lt-ltb 0 (channels (boxModel s)) (some-channel (boxModel s))) (append-nil (text ++ crLf))
 
 -- a fresh 362 answers 4 for its unit and 2,2 for its filters
 pub blind-to-lines : (says : Says) (becomes : Becomes) → Meets says becomes → BlindToLines says → ⊥
@@ -151,8 +152,8 @@ tells model x h differs says becomes meets blind =
     let other = told-text says (meets .replies) b (fresh-sound model 0 refl) x h in
     let line = settingText model (boxSettings a) x in
     let own = settingText model (defaults model) x in
-    let equal : line ++ lineEnd ≡ own ++ lineEnd =
-    ap (λ (m : Model). settingText m (boxSettings a) x ++ lineEnd) (sym (changed-model model x)) ∙ sym one ∙ blind a b ∙ other in
+    let equal : line ++ crLf ≡ own ++ crLf =
+    ap (λ (m : Model). settingText m (boxSettings a) x ++ crLf) (sym (changed-model model x)) ∙ sym one ∙ blind a b ∙ other in
     apart line own differs
     (sym (first-line line [] (no-cr line (setting-characters model (boxSettings a) x))) ∙ ap firstLine equal ∙ first-line own [] (no-cr own (setting-characters model (defaults model) x)))
 
@@ -172,7 +173,7 @@ stores model x h differs says becomes meets forgets =
     let a = changed model x in
     let b = fresh model in
     let both : Boxes a b = record { first = changed-sound model x; second = fresh-sound model 0 refl; model = changed-model model x } in
-    let equal : row (boxSettings a) x ≡ row (defaults model) x = ap (λ (s : Settings). row s x) (sym (meets .copied a b both cr cr .1)) ∙ forgets a b both cr cr in
+    let equal : row (boxSettings a) x ≡ row (defaults model) x = ap (λ (s : Settings). row s x) (sym (meets .copied a b both byCr byCr .1)) ∙ forgets a b both byCr byCr in
     apart (settingText model (boxSettings a) x) (settingText model (defaults model) x) differs
     (ap (λ (r : Row). joined (texts (kinds model (Of x)) (take (count model x) (listed r)))) equal)
 

@@ -6,7 +6,7 @@ use native.Mathlib.Omega.{arith}
 use lib.ListN.{length, take}
 use Rattle.settings.specs.Mnemonics.{sheet, known}
 use Rattle.settings.specs.declared.mnemonic.Mnemonic.{Mnemonic}
-use Rattle.settings.proofs.Lists.{each-map}
+use Rattle.ground.proofs.Members.{each-map}
 use Rattle.tpg.specs.Answers.{leastOutput}
 use Rattle.tpg.specs.States.{Sound}
 use Rattle.tpg.specs.Steps.{after, said}

@@ -6,12 +6,12 @@ use mathlib.Core.Bool.{Bool, true, false, cond}
 use native.Mathlib.Omega.{arith}
 use lib.ListN.{set, take}
 use lib.Dec.{ltb}
-use Rattle.numbers.proofs.Cases.{never}
+use Rattle.ground.proofs.Cases.{never}
 use Rattle.settings.specs.Models.{channels}
 use Rattle.settings.specs.Mnemonics.{sheet, known, name, channelOf, hasReply}
 use Rattle.settings.specs.Kinds.{factor, kinds}
 use Rattle.settings.specs.Rows.{plain, pairRow, row, listed, number, count}
-use Rattle.settings.specs.Lists.{Each}
+use Rattle.ground.specs.Members.{Each}
 use Rattle.settings.specs.declared.mnemonic.Setting.{Setting}
 use Rattle.settings.specs.declared.mnemonic.Setting.the-variants.{Cal}
 use Rattle.settings.specs.declared.mnemonic.Query.{Query}
@@ -19,7 +19,7 @@ use Rattle.settings.specs.declared.mnemonic.Query.the-variants.{Sps, Pr, Prx, T
 use Rattle.settings.specs.declared.mnemonic.Mnemonic.{Mnemonic}
 use Rattle.settings.specs.declared.mnemonic.Mnemonic.the-variants.{Setting as Of, Cf, Query as Asked, Com, Sav}
 use Rattle.settings.specs.declared.rows.Row.{Row}
-use Rattle.settings.proofs.Lists.{each-map, each-both}
+use Rattle.ground.proofs.Members.{each-map, each-both}
 use Rattle.settings.proofs.Places.{fits-plain, row-places}
 use Rattle.settings.proofs.Storing.{Holding, mixed-front, stored-row, factor-row}
 use Rattle.settings.proofs.Sheets.{sheet-holding, few, known-each}
@@ -40,7 +40,7 @@ use Rattle.shared.specs.declared.Shared.{Shared}
 use Rattle.tpg.specs.States.{Sound}
 use Rattle.tpg.specs.Steps.{lineText, next, after, said}
 use Rattle.tpg.specs.declared.State.{State}
-use Rattle.demands.specs.Wire.{ack, nak, Inner, lineIn, ended, Start, onEmpty, afterEtx, begun, Ready, enquiries, asOften, selectedText, errorText, answered, gathering, errorLeft, writtenText}
+use Rattle.demands.specs.Wire.{ackLine, nakLine, Inner, lineIn, ended, Start, onEmpty, afterEtx, begun, Ready, enquiries, asOften, selectedText, errorText, answered, gathering, errorLeft, writtenText}
 use Rattle.demands.specs.Replies.{Answers, Left, Leaves, Reads, WritesBack, Replies}
 use Rattle.demands.proofs.Ending.{Line, choice, enqText}
 use Rattle.demands.proofs.Typing.{line-enquired, line-left, anew-line, anew-shared, anew-said, anew-after, empty-line}
@@ -63,8 +63,8 @@ selected-text s Sav error = refl
 
 answered-text : (n : ℕ) (s : Shared) (error : Word) (v : Verdict)
     → lineText v ++ asOften n (λ (w : Word). enqText (heard s v) w (choice v)) (gathering error v) ≡ answered n s error v
-answered-text n s error (Asks m) = ap (λ (t : List ℕ). ack ++ t) (often-same n _ _ (selected-text s m) error)
-answered-text n s error (Writes m r) = ap (λ (t : List ℕ). ack ++ t) (often-same n _ _ (selected-text (written s m r) m) error)
+answered-text n s error (Asks m) = ap (λ (t : List ℕ). ackLine ++ t) (often-same n _ _ (selected-text s m) error)
+answered-text n s error (Writes m r) = ap (λ (t : List ℕ). ackLine ++ t) (often-same n _ _ (selected-text (written s m r) m) error)
 answered-text n s error (Refused x) = refl
 
 -- on an empty line, and with an ETX whatever came before: a line and its ENQs are answered by the verdict on the line
@@ -112,9 +112,9 @@ alone-asks Sav h = never (cc)
 
 -- told where the model has its channel, refused where it has not
 read-text : (n : ℕ) (s : Shared) (error : Word) (m : Mnemonic) → hasReply m ≡ true → (there : Bool)
-    → answered n s error (cond there (alone m) (Refused Hardware)) ≡ cond there (ack ++ asOften n (λ (w : Word). replyText s w m) error) (nak ++ asOften n (errorText s) (gathered error Hardware))
+    → answered n s error (cond there (alone m) (Refused Hardware)) ≡ cond there (ackLine ++ asOften n (λ (w : Word). replyText s w m) error) (nakLine ++ asOften n (errorText s) (gathered error Hardware))
 read-text n s error m has true =
-    rw (alone-asks m has) (ap (λ (t : List ℕ). ack ++ t) (often-same n (selectedText s m) (λ (w : Word). replyText s w m) (λ w. rw has) error))
+    rw (alone-asks m has) (ap (λ (t : List ℕ). ackLine ++ t) (often-same n (selectedText s m) (λ (w : Word). replyText s w m) (λ w. rw has) error))
 read-text n s error m has false = refl
 
 reads : (s : State) → Sound s → (m : Mnemonic) → Spelt (s .shared .model) m → Short (name m) → Reads said s m
@@ -204,7 +204,7 @@ module _ (s : State) (k : Sound s) where
   unfolding Back
   writes-back m b w ready bytes r inner e =
       line-answered s k w ready bytes inner ∙ ap (answered (w .enqs) (s .shared) (s .port .error)) e
-      ∙ ap (λ (x : List ℕ). ack ++ x) (often-same (w .enqs) _ _ (b r (writes-fitting (s .shared .model) (lineIn bytes) m r e)) (s .port .error))
+      ∙ ap (λ (x : List ℕ). ackLine ++ x) (often-same (w .enqs) _ _ (b r (writes-fitting (s .shared .model) (lineIn bytes) m r e)) (s .port .error))
 
 -- every mnemonic that the model knows, read and written, in every state that a box can be in
 pub mnemonics-answered : Replies said

@@ -16,7 +16,7 @@ use Rattle.numerals.specs.Threshold.{afterPlus, afterSign, powerOf, judged as j
 use Rattle.numerals.specs.Writing.{scientific}
 use Rattle.gauges.specs.Readings.{withinLimits, noReading}
 use Rattle.gauges.specs.Shown.{switched}
-use Rattle.settings.specs.Lists.{every}
+use Rattle.ground.specs.Members.{every}
 use Rattle.settings.specs.Mnemonics.{known, same, found, recognised, answers}
 use Rattle.settings.specs.Kinds.{storedKinds}
 use Rattle.settings.specs.Limits.{within}
@@ -24,7 +24,8 @@ use Rattle.settings.specs.declared.model.Model.the-variants.{Tpg361, Tpg362}
 use Rattle.lines.specs.Splitting.{fields}
 use Rattle.lines.specs.Fields.{limited}
 use Rattle.lines.specs.Judging.{readings, formed, valued, withFields, judged}
-use Rattle.lines.specs.Replies.{settingText, lineEnd}
+use Rattle.lines.specs.Replies.{settingText}
+use Rattle.text.specs.Control.{crLf}
 use Rattle.ports.specs.Line.{grown}
 use Rattle.ports.specs.Stream.{ticked}
 use Rattle.ports.specs.Hearing.{kindOf, concluded, asked, byKind, heard}
@@ -37,7 +38,7 @@ use Rattle.tpg.specs.Steps.{eventText, next, sent, after, said, taken}
 use Rattle.tpg.specs.Calls.{admits, roomed, roomedBytes, hosted, tickText, counted, afterTicks, ticksText, readingCall, cycleCall}
 use Rattle.tpg.specs.declared.State.{State}
 use Rattle.demands.specs.Calls.{Call, host, reading, ticks, cycle, outcome, bytes}
-use Rattle.demands.specs.Wire.{ack, nak, cr, crLf, ended, enquiries}
+use Rattle.demands.specs.Wire.{ackLine, nakLine, byCr, byCrLf, ended, enquiries}
 
 -- all that calls send, one after the other
 abbrev pub sends : State → List Call → List ℕ
@@ -56,13 +57,13 @@ raw bs = host bs room
 
 -- a line, one with CR LF, and one with an ENQ behind it
 abbrev line : String → Call
-line s = raw (ended cr (ascii s))
+line s = raw (ended byCr (ascii s))
 
 abbrev windows : String → Call
-windows s = raw (ended crLf (ascii s))
+windows s = raw (ended byCrLf (ascii s))
 
 abbrev asking : List ℕ → List ℕ
-asking l = ended cr l ++ enquiries 1
+asking l = ended byCr l ++ enquiries 1
 
 abbrev asks : String → Call
 asks s = raw (asking (ascii s))
@@ -82,11 +83,11 @@ linear channel m e = reading channel (record { kind = 5; status = 0; value = rec
 -- ---- rows
 
 abbrev reply : String → List ℕ
-reply s = ascii s ++ lineEnd
+reply s = ascii s ++ crLf
 
 -- a line that is refused, and the error word that the ENQ behind it is sent
 abbrev refused : String → List ℕ
-refused word = nak ++ reply word
+refused word = nakLine ++ reply word
 
 pub record Row : Type 0 where
   pub box : State
@@ -110,11 +111,11 @@ abbrev threshold : String → List ℕ → Row
 threshold t got = on362 (raw (asking (ascii "SP1,1," ++ ascii t ++ ascii "," ++ ascii t)) ∷ []) got
 
 abbrev held : String → List ℕ
-held t = ack ++ ascii "1," ++ ascii t ++ ascii "," ++ reply t
+held t = ackLine ++ ascii "1," ++ ascii t ++ ascii "," ++ reply t
 
 -- what PR1 sends in Torr after a call or none
 abbrev torr : List Call → String → Row
-torr cs t = on362 (line "UNI,1" ∷ (cs ++ asks "PR1" ∷ [])) (ack ++ ack ++ reply t)
+torr cs t = on362 (line "UNI,1" ∷ (cs ++ asks "PR1" ∷ [])) (ackLine ++ ackLine ++ reply t)
 
 abbrev pub starred : List Row
 starred =
@@ -130,7 +131,7 @@ starred =
     ∷ threshold "." (refused "0001")
     ∷ threshold "5." (held "5.0000E+00")
     ∷ on362 (asks "CAL,0.099,1" ∷ []) (refused "0010")
-    ∷ on362 (asks "CAL,0.1,10" ∷ []) (ack ++ reply "0.100,10.000")
+    ∷ on362 (asks "CAL,0.1,10" ∷ []) (ackLine ++ reply "0.100,10.000")
     ∷ on362 (asks "FIL,,2" ∷ []) (refused "0001")
     ∷ on362 (asks "FIL,4,2" ∷ []) (refused "0010")
     ∷ on362 (asks "FIL,4," ∷ []) (refused "0001")
@@ -153,43 +154,43 @@ abbrev pub rows : List Row
 rows =
     -- 01's example: the stream of power-on, a reply, a refusal, and the stream stopped by the bytes
     on362 (waits 10 ∷ asks "FIL" ∷ asks "FOL,1,2" ∷ waits 10 ∷ [])
-    (reply "5,+2.0000E-02,5,+2.0000E-02" ++ ack ++ reply "2,2" ++ refused "0001")
+    (reply "5,+2.0000E-02,5,+2.0000E-02" ++ ackLine ++ reply "2,2" ++ refused "0001")
     -- "Letting the LF of CR LF stop the stream its own COM line began."
-    ∷ on362 (windows "COM,1" ∷ waits 10 ∷ []) (ack ++ reply "5,+2.0000E-02,5,+2.0000E-02")
-    ∷ on362 (windows "COM,1" ∷ raw (10 ∷ []) ∷ waits 10 ∷ []) ack
+    ∷ on362 (windows "COM,1" ∷ waits 10 ∷ []) (ackLine ++ reply "5,+2.0000E-02,5,+2.0000E-02")
+    ∷ on362 (windows "COM,1" ∷ raw (10 ∷ []) ∷ waits 10 ∷ []) ackLine
     -- a refused COM starts nothing, and the first line comes a whole interval later
     ∷ on362 (line "COM,3" ∷ waits 10 ∷ enq ∷ []) (refused "0010")
-    ∷ on362 (waits 9 ∷ line "COM" ∷ waits 9 ∷ []) ack
+    ∷ on362 (waits 9 ∷ line "COM" ∷ waits 9 ∷ []) ackLine
     -- "Storing fields while checking them: SP1,2,1E-3, then stores an assignment."
-    ∷ on362 (line "SP1,2,1E-3," ∷ asks "SP1" ∷ []) (nak ++ ack ++ reply "0,1.0000E-09,9.0000E-07")
+    ∷ on362 (line "SP1,2,1E-3," ∷ asks "SP1" ∷ []) (nakLine ++ ackLine ++ reply "0,1.0000E-09,9.0000E-07")
     -- "Sending a CF1 reply back as CF1: two fields on a 362, refused."
-    ∷ on362 (asks "CF1" ∷ line "CF1,1.000,1.000" ∷ asks "CF2,2.5" ∷ []) (ack ++ reply "1.000,1.000" ++ nak ++ ack ++ reply "1.000,2.500")
+    ∷ on362 (asks "CF1" ∷ line "CF1,1.000,1.000" ∷ asks "CF2,2.5" ∷ []) (ackLine ++ reply "1.000,1.000" ++ nakLine ++ ackLine ++ reply "1.000,2.500")
     -- "Keeping the old selection after a NAK, so ENQ answers an earlier question."
-    ∷ on362 (line "UNI" ∷ asks "UNI,9" ∷ enq ∷ []) (ack ++ refused "0010" ++ reply "0000")
+    ∷ on362 (line "UNI" ∷ asks "UNI,9" ∷ enq ∷ []) (ackLine ++ refused "0010" ++ reply "0000")
     -- "Naming a linear gauge CMR": the list says CMR/APR
-    ∷ on362 (linear 2 (pos 10000) (pos 0) ∷ asks "TID" ∷ []) (ack ++ reply "noSEn,CMR/APR")
+    ∷ on362 (linear 2 (pos 10000) (pos 0) ∷ asks "TID" ∷ []) (ackLine ++ reply "noSEn,CMR/APR")
     -- digits gather until the word is sent, here through ERR; ENQ on a bad line sends it too, and not the selection
-    ∷ on362 (line "FOL" ∷ line "UNI,5" ∷ asks "ERR" ∷ enq ∷ []) (nak ++ nak ++ ack ++ reply "0011" ++ reply "0000")
-    ∷ on362 (line "UNI" ∷ raw (1 ∷ 5 ∷ 5 ∷ []) ∷ []) (ack ++ reply "0000" ++ reply "0000")
+    ∷ on362 (line "FOL" ∷ line "UNI,5" ∷ asks "ERR" ∷ enq ∷ []) (nakLine ++ nakLine ++ ackLine ++ reply "0011" ++ reply "0000")
+    ∷ on362 (line "UNI" ∷ raw (1 ∷ 5 ∷ 5 ∷ []) ∷ []) (ackLine ++ reply "0000" ++ reply "0000")
     -- "80 / 81 characters": CF2 on a 361 is 0100 before its fields are looked at, and a bad line is 0001
     ∷ on361 (raw (asking (ascii "CF2," ++ replicate 76 48)) ∷ []) (refused "0100")
     ∷ on361 (raw (asking (ascii "CF2," ++ replicate 77 48)) ∷ []) (refused "0001")
     -- spaces are not counted, ETX empties a bad line, and ENQ on a full one drops it
-    ∷ on362 (raw (replicate 81 32) ∷ asks "F I L" ∷ []) (ack ++ reply "2,2")
-    ∷ on362 (raw (replicate 81 65 ++ 3 ∷ []) ∷ asks "FIL" ∷ []) (ack ++ reply "2,2")
-    ∷ on362 (asks "FIL" ∷ raw (replicate 80 48 ++ 5 ∷ []) ∷ []) (ack ++ reply "2,2" ++ reply "0000")
+    ∷ on362 (raw (replicate 81 32) ∷ asks "F I L" ∷ []) (ackLine ++ reply "2,2")
+    ∷ on362 (raw (replicate 81 65 ++ 3 ∷ []) ∷ asks "FIL" ∷ []) (ackLine ++ reply "2,2")
+    ∷ on362 (asks "FIL" ∷ raw (replicate 80 48 ++ 5 ∷ []) ∷ []) (ackLine ++ reply "2,2" ++ reply "0000")
     -- switching: below the lower threshold on, between no change, above the upper off; on again, and a status that is not 0 off
     ∷ on362 (line "SP1,2,1E-3,1E-2" ∷ linear 1 (pos 99999) (negsuc 3) ∷ asks "SPS" ∷ linear 1 (pos 50000) (negsuc 2) ∷ enq
     ∷ linear 1 (pos 10001) (negsuc 1) ∷ enq ∷ linear 1 (pos 99999) (negsuc 3) ∷ enq ∷ reading 1 noReading ∷ enq ∷ [])
-    (ack ++ ack ++ reply "1,0,0,0" ++ reply "1,0,0,0" ++ reply "0,0,0,0" ++ reply "1,0,0,0" ++ reply "0,0,0,0")
-    ∷ on362 (line "SP2,1,1,2" ∷ asks "SPS" ∷ []) (ack ++ ack ++ reply "0,1,0,0")
+    (ackLine ++ ackLine ++ reply "1,0,0,0" ++ reply "1,0,0,0" ++ reply "0,0,0,0" ++ reply "1,0,0,0" ++ reply "0,0,0,0")
+    ∷ on362 (line "SP2,1,1,2" ∷ asks "SPS" ∷ []) (ackLine ++ ackLine ++ reply "0,1,0,0")
     -- SAV keeps what a power cycle takes back; a power cycle forgets readings
     ∷ on362 (line "UNI,1" ∷ line "SAV,1" ∷ line "UNI,2" ∷ linear 1 (pos 10000) (pos 3) ∷ asks "PR1" ∷ cycle ∷ asks "UNI" ∷ asks "PR1" ∷ [])
-    (ack ++ ack ++ ack ++ ack ++ reply "0,+1.0000E+05" ++ ack ++ reply "1" ++ ack ++ reply "5,+1.5001E-02")
+    (ackLine ++ ackLine ++ ackLine ++ ackLine ++ reply "0,+1.0000E+05" ++ ackLine ++ reply "1" ++ ackLine ++ reply "5,+1.5001E-02")
     -- AYT, and what a 361 has not
-    ∷ on362 (asks "AYT" ∷ []) (ack ++ reply "TPG362,PTG28290,44990000,010100,010100")
+    ∷ on362 (asks "AYT" ∷ []) (ackLine ++ reply "TPG362,PTG28290,44990000,010100,010100")
     ∷ on361 (asks "AYT" ∷ asks "PRX" ∷ asks "PR2" ∷ asks "CF2" ∷ asks "ERA,3" ∷ [])
-    (ack ++ reply "TPG361,PTG28040,00000000,010100,010100" ++ ack ++ reply "5,+2.0000E-02" ++ refused "0100" ++ refused "0100" ++ refused "0100")
+    (ackLine ++ reply "TPG361,PTG28040,00000000,010100,010100" ++ ackLine ++ reply "5,+2.0000E-02" ++ refused "0100" ++ refused "0100" ++ refused "0100")
     ∷ []
 
 pub rows-hold : Hold rows

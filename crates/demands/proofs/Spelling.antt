@@ -3,25 +3,25 @@ use Prim.Native.Nat.{ℕ, _≤_}
 use Prim.Native.Char.{code}
 use mathlib.Core.Path.{_≡_, refl, ap, _∙_}
 use mathlib.Core.List.{List, [], _∷_}
-use mathlib.Core.Bool.{Bool, true, cond, _&&_}
+use mathlib.Core.Bool.{Bool, true, cond, _&&_, and-eq-true-iff}
 use native.Mathlib.Omega.{arith}
 use borrow.Author.Tests.{leb-true, lt-ltb, ne-eqb}
 use lib.ListN.{length, length-append}
 use lib.Dec.{leb, ltb}
 use Rattle.numbers.specs.declared.threshold.Threshold.{Threshold}
-use Rattle.numbers.proofs.Cases.{and-true, ranged}
+use Rattle.ground.proofs.Cases.{ranged}
 use Rattle.settings.specs.Models.{channels}
 use Rattle.settings.specs.Mnemonics.{known, name, channelOf}
 use Rattle.settings.specs.Kinds.{kinds}
 use Rattle.settings.specs.Rows.{cells}
-use Rattle.settings.specs.Lists.{every, Each}
+use Rattle.ground.specs.Members.{every, Each}
 use Rattle.settings.specs.declared.model.Model.{Model}
 use Rattle.settings.specs.declared.mnemonic.Setting.{Setting}
 use Rattle.settings.specs.declared.mnemonic.Mnemonic.{Mnemonic}
 use Rattle.settings.specs.declared.mnemonic.Mnemonic.the-variants.{Setting as Of}
 use Rattle.settings.specs.declared.kinds.Kind.{Kind}
 use Rattle.settings.specs.declared.Settings.{Settings}
-use Rattle.settings.proofs.Lists.{each-map, each-append, every-each}
+use Rattle.ground.proofs.Members.{each-map, each-append, every-each}
 use Rattle.lines.specs.Splitting.{joined}
 use Rattle.lines.specs.Judging.{alone, withFields, parted, judged}
 use Rattle.lines.specs.Replies.{texts, settingText}
@@ -31,9 +31,10 @@ use Rattle.lines.specs.declared.verdict.Fault.the-variants.{Hardware}
 use Rattle.lines.specs.declared.verdict.Verdict.the-variants.{Refused}
 use Rattle.lines.proofs.Walking.{judged-parts}
 use Rattle.lines.proofs.Accepted.{Spelt, fields-one}
-use Rattle.ports.specs.Limits.{inRange}
+use Rattle.ground.specs.Ranges.{inRange}
 use Rattle.shared.proofs.Lengths.{setting-short}
-use Rattle.demands.specs.Wire.{Inner, undropped, isCharacter, lineIn}
+use Rattle.demands.specs.Wire.{Inner, undropped, lineIn}
+use Rattle.text.specs.Control.{isCharacter}
 use Rattle.demands.proofs.Typing.{short-good}
 
 -- ---- lines that are what is sent of them
@@ -82,7 +83,7 @@ pub names-short : (model : Model) → Each (λ (m : Mnemonic). Short (name m)) (
 unfolding short
 names-short model =
     each-map (λ (m : Mnemonic). short (name m) ≡ true) (λ (m : Mnemonic). Short (name m))
-    (λ m e. let b = and-true (every (inRange 33 126) (name m)) (leb (length (name m)) 3) e in
+    (λ m e. let b = and-eq-true-iff (every (inRange 33 126) (name m)) (leb (length (name m)) 3) .0 e in
     record {
       characters = each-map _ Character (λ c. ranged 33 126 c) (name m) (every-each (inRange 33 126) (name m) (b .0));
       few = leb-true (length (name m)) 3 (b .1);

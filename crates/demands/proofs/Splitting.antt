@@ -9,7 +9,7 @@ use native.Mathlib.Nat.{min-le-left}
 use borrow.Author.Tests.{le-leb, lt-leb}
 use lib.ListN.{length, take, drop, length-take, length-append, take-append-drop}
 use lib.Seq.{take-take, take-length, drop-length}
-use Rattle.numbers.proofs.Cases.{below}
+use Rattle.ground.proofs.Cases.{below}
 use Rattle.tpg.specs.Answers.{number, answer, handed, done, leastOutput}
 use Rattle.tpg.specs.States.{stateWithin, Sound}
 use Rattle.tpg.specs.Steps.{next, sent, after, said, taken}

@@ -2,13 +2,13 @@
 use Prim.Native.Nat.{ℕ, zero, suc, _+_, _-_, _/_, _≤_, _<_}
 use mathlib.Core.Path.{_≡_, sym, ap, subst, _∙_}
 use mathlib.Core.List.{List, [], _∷_, _++_, flatMap, append-nil}
-use mathlib.Core.Bool.{Bool, true, false, cond, _&&_}
+use mathlib.Core.Bool.{Bool, true, false, cond, _&&_, and-eq-true-iff}
 use mathlib.Core.Logic.{_⊎_, inl, inr, ⊎-elim}
 use native.Mathlib.Omega.{arith}
 use native.Mathlib.Nat.{zero-add, div-eq-of-lt, add-div-left}
 use borrow.Author.Tests.{eqb-true, ltb-true, eq-eqb, ne-eqb, lt-ltb, le-ltb}
 use lib.Dec.{eqb, ltb}
-use Rattle.numbers.proofs.Cases.{and-true, or-true, below}
+use Rattle.ground.proofs.Cases.{or-either, below}
 use Rattle.ports.specs.Limits.{lineWithin, isInterval, streamWithin, portWithin}
 use Rattle.ports.specs.Stream.{withStream, ticked}
 use Rattle.ports.specs.declared.Port.{Port}
@@ -28,12 +28,12 @@ running : (s : State) → Sound s → Running (s .port)
 unfolding stateWithin portWithin
 running s k =
     let p = s .port in
-    let port = and-true (sharedWithin (s .shared)) (portWithin (s .shared .model) p) (k .within) .1 in
-    let stream = and-true (streamWithin p) _ (and-true (lineWithin p) _ port .1) .0 in
+    let port = and-eq-true-iff (sharedWithin (s .shared)) (portWithin (s .shared .model) p) .0 (k .within) .1 in
+    let stream = and-eq-true-iff (streamWithin p) _ .0 (and-eq-true-iff (lineWithin p) _ .0 port .1) .0 in
     ⊎-elim
-    (λ (a : eqb (p .interval) 0 && eqb (p .ticks) 0 ≡ true). inl (eqb-true (p .interval) 0 (and-true (eqb (p .interval) 0) _ a .0)))
-    (λ (b : isInterval (p .interval) && ltb (p .ticks) (p .interval) ≡ true). inr (ltb-true (p .ticks) (p .interval) (and-true (isInterval (p .interval)) _ b .1)))
-    (or-true _ _ stream)
+    (λ (a : eqb (p .interval) 0 && eqb (p .ticks) 0 ≡ true). inl (eqb-true (p .interval) 0 (and-eq-true-iff (eqb (p .interval) 0) _ .0 a .0)))
+    (λ (b : isInterval (p .interval) && ltb (p .ticks) (p .interval) ≡ true). inr (ltb-true (p .ticks) (p .interval) (and-eq-true-iff (isInterval (p .interval)) _ .0 b .1)))
+    (or-either _ _ stream)
 
 -- whole intervals that end within n ticks, by the port alone
 abbrev ends : Port → ℕ → ℕ

@@ -2,7 +2,7 @@
 use Prim.Native.Nat.{ℕ, zero, suc, _+_, _≤_, _<_}
 use mathlib.Core.Path.{_≡_, refl, sym, ap, ap₂, subst, _∙_}
 use mathlib.Core.List.{List, [], _∷_, _++_, append-assoc, append-nil}
-use mathlib.Core.Bool.{true, false, cond, not, and-false}
+use mathlib.Core.Bool.{true, false, cond, not, and-false, and-eq-true-iff}
 use mathlib.Core.Logic.{⊎-elim}
 use native.Mathlib.Omega.{arith}
 use native.Mathlib.Numerals.{add-one}
@@ -10,16 +10,17 @@ use borrow.Author.Tests.{lt-ltb, le-ltb, lt-leb, le-leb, eqb-true, not-true}
 use lib.ListN.{length, length-set, length-append}
 use lib.Seq.{take-suc-set}
 use lib.Dec.{eqb}
-use Rattle.settings.specs.Lists.{every, Each}
-use Rattle.settings.proofs.Lists.{each-append, each-every}
-use Rattle.numbers.proofs.Cases.{below, and-true}
+use Rattle.ground.specs.Members.{every, Each}
+use Rattle.ground.proofs.Members.{each-append, each-every}
+use Rattle.ground.proofs.Cases.{below}
 use Rattle.lines.specs.Words.{noError}
 use Rattle.lines.specs.Judging.{judged}
 use Rattle.lines.specs.declared.word.Word.{Word}
 use Rattle.lines.specs.declared.verdict.Verdict.{Verdict}
 use Rattle.lines.specs.declared.verdict.Verdict.the-variants.{Asks, Writes, Refused}
 use Rattle.ports.specs.Line.{spoilt, grown, isEmpty}
-use Rattle.ports.specs.Hearing.{withMark, settled}
+use Rattle.ports.specs.Hearing.{withMark, isDropped}
+use Rattle.ports.specs.Walk.{settled}
 use Rattle.ports.specs.declared.Port.{Port}
 use Rattle.ports.specs.declared.Selection.{Selection}
 use Rattle.ports.specs.declared.Selection.the-variants.{Nothing}
@@ -34,7 +35,8 @@ use Rattle.tpg.specs.States.{Sound}
 use Rattle.tpg.specs.Steps.{lineText, eventText, acted, hearing, next, sent, after, said}
 use Rattle.tpg.specs.declared.State.{State}
 use Rattle.tpg.proofs.Runs.{after-append, said-append}
-use Rattle.demands.specs.Wire.{Inner, isDropped, undropped, isCharacter, isGood, lineIn, End, cr, crLf, ended, anew, enquiries, asOften, gathering, errorLeft}
+use Rattle.demands.specs.Wire.{Inner, undropped, isGood, lineIn, End, byCr, byCrLf, ended, anew, enquiries, asOften, gathering, errorLeft}
+use Rattle.text.specs.Control.{isCharacter}
 use Rattle.demands.proofs.Ending.{Line, choice, marked-line, settled-line, Judged, Held, held-line, enqText, wordLeft, reply-without-word, told-word, word-stays-gone, cr-judges, enq-replies, lf-nothing, etx-empties}
 
 -- ---- the bytes of a line
@@ -210,7 +212,7 @@ module _ (s : State) {selection : Selection} {error : Word} (empty : Line (s .po
   abbrev Ended : End → Type 0
   Ended e = Judged (s .shared) error v (said s (ended e bytes)) (after s (ended e bytes))
 
-  cr-judged : Ended cr
+  cr-judged : Ended byCr
   unfolding after said
   cr-judged =
       let t = good-run bytes s [] inner empty tt (omega arith) in
@@ -221,18 +223,18 @@ module _ (s : State) {selection : Selection} {error : Word} (empty : Line (s .po
       (rw (same, t .shared) at j)
 
   -- the LF adds nothing
-  lf-judged : Ended crLf
+  lf-judged : Ended byCrLf
   unfolding after said
   lf-judged =
-      let now = after s (ended cr bytes) in
+      let now = after s (ended byCr bytes) in
       let f = lf-nothing now (cr-judged .line) in
-      let parts : ended crLf bytes ≡ ended cr bytes ++ 10 ∷ [] = sym (append-assoc bytes (13 ∷ []) (10 ∷ [])) in
-      rw (parts, said-append (ended cr bytes) (10 ∷ []) s, after-append (ended cr bytes) (10 ∷ []) s, f .0, append-nil (said s (ended cr bytes)))
+      let parts : ended byCrLf bytes ≡ ended byCr bytes ++ 10 ∷ [] = sym (append-assoc bytes (13 ∷ []) (10 ∷ [])) in
+      rw (parts, said-append (ended byCr bytes) (10 ∷ []) s, after-append (ended byCr bytes) (10 ∷ []) s, f .0, append-nil (said s (ended byCr bytes)))
       (record { reply = cr-judged .reply; shared = f .1 ∙ cr-judged .shared; line = f .2 })
 
   pub line-judged : (e : End) → Ended e
-  line-judged cr = cr-judged
-  line-judged crLf = lf-judged
+  line-judged byCr = cr-judged
+  line-judged byCrLf = lf-judged
 
   -- and so many ENQs behind it
   pub line-enquired : (e : End) (n : ℕ) → said s (ended e bytes ++ enquiries n) ≡ lineText v ++ asOften n (λ (w : Word). enqText (heard (s .shared) v) w (choice v)) (gathering error v)
@@ -272,6 +274,6 @@ anew-after s bytes = refl
 pub empty-line : (s : State) → Sound s → isEmpty (s .port) ≡ true → Line (s .port) [] (s .port .selection) (s .port .error)
 empty-line s k e =
     let p = s .port in
-    let b = and-true (not (p .bad)) (eqb (p .len) 0) e in
+    let b = and-eq-true-iff (not (p .bad)) (eqb (p .len) 0) .0 e in
     let none : p .len ≡ 0 = eqb-true (p .len) 0 (b .1) in
     record { good = not-true (p .bad) (b .0); count = none; text = rw none; places = k .formed .port .line; chosen = refl; word = refl }

@@ -4,7 +4,7 @@ use mathlib.Core.Path.{_≡_}
 use mathlib.Core.List.{List, [], flatMap}
 use mathlib.Core.Logic.{_≢_}
 use lib.ListN.{length, take, drop}
-use Rattle.settings.specs.Lists.{Each}
+use Rattle.ground.specs.Members.{Each}
 use Rattle.settings.specs.Mnemonics.{name}
 use Rattle.settings.specs.declared.mnemonic.Setting.{Setting}
 use Rattle.settings.specs.declared.mnemonic.Mnemonic.{Mnemonic}
@@ -12,7 +12,7 @@ use Rattle.settings.specs.declared.mnemonic.Mnemonic.the-variants.{Setting as O
 use Rattle.tpg.specs.Answers.{leastOutput}
 use Rattle.tpg.specs.Steps.{said}
 use Rattle.tpg.specs.declared.State.{State}
-use Rattle.demands.specs.Wire.{ack, End, cr, afterEtx, Way, sending}
+use Rattle.demands.specs.Wire.{ackLine, End, byCr, afterEtx, Way, sending}
 use Rattle.demands.specs.Replies.{Says, Becomes, Answers, Leaves, Replies, Splits, Keeps}
 use Rattle.demands.specs.Sheets.{Boxes, copyOf, linesSent, Same, SheetRead, SheetCopied, SheetCut, SheetsDecide}
 
@@ -56,10 +56,10 @@ NaksAll says = (s : State) (bytes : List ℕ) → Each (λ (b : ℕ). b ≢ 6) (
 
 -- what a program sends behind ACK or NAK for a mnemonic alone and one ENQ
 abbrev pub once : Way
-once = record { start = afterEtx; end = cr; enqs = 1 }
+once = record { start = afterEtx; end = byCr; enqs = 1 }
 
 abbrev pub told : Says → State → Mnemonic → List ℕ
-told says s m = drop (length ack) (says s (sending once (name m)))
+told says s m = drop (length ackLine) (says s (sending once (name m)))
 
 -- "one that always sends the same reply": whatever it is asked, or, to some setting, in whatever state
 abbrev pub BlindToLines : Says → Type 0

@@ -3,7 +3,7 @@ use Prim.Native.Nat.{ℕ}
 use mathlib.Core.Path.{_≡_}
 use mathlib.Core.List.{List, _++_}
 use mathlib.Core.Bool.{true}
-use Rattle.settings.specs.Lists.{Each}
+use Rattle.ground.specs.Members.{Each}
 use Rattle.settings.specs.Mnemonics.{known, name, hasReply}
 use Rattle.settings.specs.declared.mnemonic.Mnemonic.{Mnemonic}
 use Rattle.settings.specs.declared.rows.Row.{Row}
@@ -14,7 +14,7 @@ use Rattle.ports.specs.Line.{isEmpty}
 use Rattle.shared.specs.Events.{heard}
 use Rattle.tpg.specs.States.{Sound}
 use Rattle.tpg.specs.declared.State.{State}
-use Rattle.demands.specs.Wire.{ack, Inner, lineIn, Ready, Way, sending, asOften, answered, errorLeft, readText, writtenText}
+use Rattle.demands.specs.Wire.{ackLine, Inner, lineIn, Ready, Way, sending, asOften, answered, errorLeft, readText, writtenText}
 
 -- what a program sends for host bytes, and its state after them
 abbrev pub Says : Type 0
@@ -50,7 +50,7 @@ Reads says s m =
 abbrev pub WritesBack : Says → State → Mnemonic → Type 0
 WritesBack says s m =
     (w : Way) → Ready (w .start) s → (bytes : List ℕ) (r : Row) → Each Inner bytes → judged (s .shared .model) (lineIn bytes) ≡ Writes m r
-    → says s (sending w bytes) ≡ ack ++ asOften (w .enqs) (writtenText (s .shared) m r) (s .port .error)
+    → says s (sending w bytes) ≡ ackLine ++ asOften (w .enqs) (writtenText (s .shared) m r) (s .port .error)
 
 -- every mnemonic that the model knows, read and written
 abbrev pub Replies : Says → Type 0

@@ -6,17 +6,18 @@ use mathlib.Core.List.{List, [], _∷_, _++_, flatMap}
 use mathlib.Core.Logic.{_↔_}
 use lib.ListN.{length, take, drop}
 use Rattle.text.specs.Spans.{until}
-use Rattle.settings.specs.Lists.{Each}
+use Rattle.ground.specs.Members.{Each}
 use Rattle.settings.specs.Mnemonics.{sheet, name}
 use Rattle.settings.specs.Rows.{row}
 use Rattle.settings.specs.declared.mnemonic.Setting.{Setting}
 use Rattle.settings.specs.declared.mnemonic.Mnemonic.the-variants.{Setting as Of}
 use Rattle.settings.specs.declared.Settings.{Settings}
 use Rattle.settings.specs.declared.model.Model.{Model}
-use Rattle.lines.specs.Replies.{settingText, lineEnd}
+use Rattle.lines.specs.Replies.{settingText}
+use Rattle.text.specs.Control.{cr, crLf}
 use Rattle.tpg.specs.States.{Sound}
 use Rattle.tpg.specs.declared.State.{State}
-use Rattle.demands.specs.Wire.{ack, End, ended, anew, enquiries}
+use Rattle.demands.specs.Wire.{ackLine, End, ended, anew, enquiries}
 use Rattle.demands.specs.Replies.{Says, Becomes}
 
 abbrev pub boxModel : State → Model
@@ -43,11 +44,11 @@ sheetAsked e s = anew (questions e (sheet (boxModel s)))
 
 -- what comes back: an ACK and the reply of each
 abbrev pub replies : Model → Settings → List Setting → List ℕ
-replies model s = flatMap (λ (x : Setting). ack ++ (settingText model s x ++ lineEnd))
+replies model s = flatMap (λ (x : Setting). ackLine ++ (settingText model s x ++ crLf))
 
 -- of what was received the first line, and what is behind its CR LF
 abbrev pub firstLine : List ℕ → List ℕ
-firstLine received = until 13 received
+firstLine received = until cr received
 
 abbrev pub behindLine : List ℕ → List ℕ
 behindLine received = drop (length (firstLine received) + 2) received
@@ -69,7 +70,7 @@ linesSent e lines = anew (flatMap (ended e) lines)
 
 -- "All are accepted": an ACK for each
 abbrev pub acks : List Setting → List ℕ
-acks = flatMap (λ (x : Setting). ack)
+acks = flatMap (λ (x : Setting). ackLine)
 
 -- ---- the demand
 

@@ -6,7 +6,7 @@ use mathlib.Core.Bool.{Bool, true, cond, not, _&&_, _||_}
 use mathlib.Core.Logic.{_≢_}
 use lib.Dec.{eqb, ltb, leb}
 use lib.ListN.{length, set, take, replicate}
-use Rattle.settings.specs.Lists.{every}
+use Rattle.ground.specs.Members.{every}
 use Rattle.settings.specs.Models.{channels}
 use Rattle.settings.specs.Mnemonics.{hasReply, isErr, channelOf}
 use Rattle.settings.specs.Kinds.{kinds}
@@ -18,42 +18,36 @@ use Rattle.settings.specs.declared.mnemonic.Query.the-variants.{Err}
 use Rattle.settings.specs.declared.rows.Row.{Row}
 use Rattle.lines.specs.Splitting.{joined}
 use Rattle.lines.specs.Words.{noError, gathered}
-use Rattle.lines.specs.Replies.{texts, lineEnd}
+use Rattle.lines.specs.Replies.{texts}
+use Rattle.text.specs.Control.{etx, enq, ack, cr, nak, crLf, isCharacter}
 use Rattle.lines.specs.declared.word.Word.{Word}
 use Rattle.lines.specs.declared.verdict.Fault.the-variants.{Hardware}
 use Rattle.lines.specs.declared.verdict.Verdict.{Verdict}
 use Rattle.lines.specs.declared.verdict.Verdict.the-variants.{Asks, Writes, Refused}
 use Rattle.ports.specs.Line.{isEmpty}
+use Rattle.ports.specs.Hearing.{isDropped}
 use Rattle.shared.specs.Events.{written}
 use Rattle.shared.specs.Replies.{replyText}
 use Rattle.shared.specs.declared.Shared.{Shared}
 use Rattle.tpg.specs.declared.State.{State}
 
 -- "sends ACK CR LF", "sends NAK CR LF"
-abbrev pub ack : List ℕ
-ack = 6 ∷ lineEnd
+abbrev pub ackLine : List ℕ
+ackLine = ack ∷ crLf
 
-abbrev pub nak : List ℕ
-nak = 21 ∷ lineEnd
+abbrev pub nakLine : List ℕ
+nakLine = nak ∷ crLf
 
 -- ---- the line that bytes make
 
 -- the bytes that a line is made of: all but the three that end or drop one, CR, ETX and ENQ
 abbrev pub Inner : ℕ → Type 0
-Inner b = (b ≢ 13) × (b ≢ 3) × (b ≢ 5)
-
--- "Any other LF, and every space, is dropped."
-abbrev pub isDropped : ℕ → Bool
-isDropped b = eqb b 10 || eqb b 32
+Inner b = (b ≢ cr) × (b ≢ etx) × (b ≢ enq)
 
 -- the other bytes
 unfoldable pub undropped : List ℕ → List ℕ
 undropped [] = []
 undropped (b ∷ bytes) = cond (isDropped b) (undropped bytes) (b ∷ undropped bytes)
-
--- not "a byte below 32 .., or one of 127 and above"; the space is dropped
-abbrev pub isCharacter : ℕ → Bool
-isCharacter b = ltb 32 b && ltb b 127
 
 -- "A line holds up to 80 characters"
 unfoldable pub isGood : List ℕ → Bool
@@ -67,12 +61,12 @@ lineIn bytes = cond (isGood (undropped bytes)) (undropped bytes) []
 
 -- 000: "Mnemonics [and parameters] <CR>[<LF>]", what stands in brackets being optional
 pub data End : Type 0 where
-  cr : End
-  crLf : End
+  byCr : End
+  byCrLf : End
 
 abbrev pub endBytes : End → List ℕ
-endBytes cr = 13 ∷ []
-endBytes crLf = 13 ∷ 10 ∷ []
+endBytes byCr = cr ∷ []
+endBytes byCrLf = crLf
 
 -- bytes, and "CR ends a line"
 abbrev pub ended : End → List ℕ → List ℕ
@@ -80,7 +74,7 @@ ended e bytes = bytes ++ endBytes e
 
 -- "ETX empties the line, a bad one too, clears the selection"
 abbrev pub anew : List ℕ → List ℕ
-anew bytes = 3 ∷ bytes
+anew bytes = etx ∷ bytes
 
 -- a line begins where the line is empty already, or with an ETX whatever came before
 pub data Start : Type 0 where
@@ -103,7 +97,7 @@ pub record Way : Type 0 where
   pub enqs : ℕ
 
 abbrev pub enquiries : ℕ → List ℕ
-enquiries n = replicate n 5
+enquiries n = replicate n enq
 
 abbrev pub sending : Way → List ℕ → List ℕ
 sending w bytes = begun (w .start) (ended (w .end) bytes ++ enquiries (w .enqs))
@@ -125,9 +119,9 @@ selectedText s m error = cond (hasReply m) (replyText s error m) (errorText s er
 
 -- what comes back for a line and so many ENQs behind it
 abbrev pub answered : ℕ → Shared → Word → Verdict → List ℕ
-answered n s error (Asks m) = ack ++ asOften n (selectedText s m) error
-answered n s error (Writes m r) = ack ++ asOften n (selectedText (written s m r) m) error
-answered n s error (Refused x) = nak ++ asOften n (errorText s) (gathered error x)
+answered n s error (Asks m) = ackLine ++ asOften n (selectedText s m) error
+answered n s error (Writes m r) = ackLine ++ asOften n (selectedText (written s m r) m) error
+answered n s error (Refused x) = nakLine ++ asOften n (errorText s) (gathered error x)
 
 -- ---- what it leaves behind
 
@@ -153,13 +147,13 @@ errorLeft (suc n) error v = cond (tellsError v) noError (gathering error v)
 -- for a mnemonic alone that has a reply: "PR2 or CF2 on a 361, 0100", and any other is told
 abbrev pub readText : ℕ → Shared → Word → Mnemonic → List ℕ
 readText n s error m =
-    cond (ltb (channelOf m) (channels (s .model))) (ack ++ asOften n (λ (w : Word). replyText s w m) error) (nak ++ asOften n (errorText s) (gathered error Hardware))
+    cond (ltb (channelOf m) (channels (s .model))) (ackLine ++ asOften n (λ (w : Word). replyText s w m) error) (nakLine ++ asOften n (errorText s) (gathered error Hardware))
 
 -- what the ENQ tells after a line that wrote: the line's own values; "CFx takes one factor and answers one per channel"; a mnemonic without
 -- fields has nothing to write
 abbrev pub writtenText : Shared → Mnemonic → Row → Word → List ℕ
-writtenText s (Of x) r error = joined (texts (kinds (s .model) (Of x)) (take (count (s .model) x) (listed r))) ++ lineEnd
-writtenText s (Cf k) r error = joined (texts (kinds (s .model) (Of Cal)) (set (cells (s .model) (s .settings) Cal) k (r .first))) ++ lineEnd
+writtenText s (Of x) r error = joined (texts (kinds (s .model) (Of x)) (take (count (s .model) x) (listed r))) ++ crLf
+writtenText s (Cf k) r error = joined (texts (kinds (s .model) (Of Cal)) (set (cells (s .model) (s .settings) Cal) k (r .first))) ++ crLf
 writtenText s (Asked q) r error = replyText s error (Asked q)
 writtenText s Com r error = errorText s error
 writtenText s Sav r error = errorText s error

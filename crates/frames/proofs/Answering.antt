@@ -2,22 +2,23 @@
 use Prim.Native.Nat.{ℕ, _+_, _*_, _-_, _≤_, _<_}
 use mathlib.Core.Path.{_≡_, refl, sym, ap, _∙_}
 use mathlib.Core.List.{List, [], _∷_, _++_}
-use mathlib.Core.Bool.{true, false, _&&_, and-false}
+use mathlib.Core.Bool.{true, false, _&&_, and-false, and-eq-true-iff}
 use mathlib.Core.Logic.{_⊎_, inl, inr}
 use native.Mathlib.Omega.{arith}
 use borrow.Author.Tests.{le-leb, lt-leb, leb-false, ne-eqb}
 use lib.ListN.{length, getD, take, drop, length-append}
 use lib.Seq.{take-append-seam, drop-append-add, drop-drop}
 use lib.Dec.{leb, eqb}
-use Rattle.numbers.proofs.Cases.{never, and-true, true-or-false}
+use Rattle.ground.proofs.Cases.{never, true-or-false}
 use Rattle.tpg.specs.Steps.{over}
 use Rattle.tpg.specs.declared.State.{State}
 use Rattle.tpg.proofs.Laying.{over-length}
-use Rattle.frames.specs.Hex.{isDigit, isHex, unhex, hex}
-use Rattle.frames.specs.Frames.{Reply, bytesOf, longestFrame, readBytes, noFrame, framed, reply, lineOf, mostSent, longestLine, answerCall, answerLine, toldOf}
+use Rattle.text.specs.Hex.{isDigit, isHex, unhex, hex}
+use Rattle.frames.specs.Frames.{Reply, bytesOf, longestFrame, noFrame, framed, reply, lineOf, mostSent, longestLine, answerCall, answerLine}
+use Rattle.frames.specs.Walk.{readBytes, toldOf}
 use Rattle.frames.specs.declared.Answered.{Answered}
 use Rattle.frames.specs.declared.taking.Told.{Told}
-use Rattle.frames.proofs.Spreading.{hex-length}
+use Rattle.text.proofs.HexDigits.{hex-length}
 use Rattle.frames.proofs.Bounds.{framed-few, bytes-small}
 
 -- ---- a line that is too long to be read has no form
@@ -26,7 +27,7 @@ unhex-length : (l : List ℕ) → isHex l ≡ true → 2 * length (unhex l) ≡ 
 unfolding isHex unhex
 unhex-length [] e = refl
 unhex-length (a ∷ []) e = never (cc)
-unhex-length (a ∷ b ∷ l) e = omega (arith, unhex-length l (and-true (isDigit a && isDigit b) (isHex l) e .1))
+unhex-length (a ∷ b ∷ l) e = omega (arith, unhex-length l (and-eq-true-iff (isDigit a && isDigit b) (isHex l) .0 e .1))
 
 pub too-many : (s : State) (f : List ℕ) → longestFrame < length f → framed s f ≡ noFrame s
 unfolding framed

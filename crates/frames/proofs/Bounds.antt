@@ -5,7 +5,7 @@ use native.Mathlib.Omega.{arith}
 use borrow.Author.Tests.{leb-true}
 use lib.ListN.{length, getD, drop, length-append, length-drop}
 use lib.Dec.{leb}
-use Rattle.numbers.proofs.Cases.{cond-cases}
+use Rattle.ground.proofs.Cases.{cond-cases}
 use Rattle.tpg.specs.Answers.{leastOutput}
 use Rattle.tpg.specs.States.{stateWithin}
 use Rattle.tpg.specs.Steps.{next, said}
@@ -13,11 +13,10 @@ use Rattle.tpg.specs.Calls.{ticksText}
 use Rattle.tpg.specs.declared.State.{State}
 use Rattle.tpg.proofs.Sending.{sent-length}
 use Rattle.tpg.proofs.Ticking.{ticks-length}
-use Rattle.frames.specs.Hex.{isHex, unhex}
+use Rattle.text.specs.Hex.{isHex, unhex}
 use Rattle.frames.specs.Frames.{Reply, bytesOf, longestFrame, sending, hostFrame, ticksFrame, framed, reply, lineOf, mostSent, longestLine, answerCall}
 use Rattle.frames.specs.declared.Answered.{Answered}
-use Rattle.frames.proofs.Spreading.{hex-length}
-use Rattle.frames.proofs.Digits.{unhex-small}
+use Rattle.text.proofs.HexDigits.{hex-length, unhex-small}
 use Rattle.frames.proofs.Forms.{framed-cases, reading-unsent, fresh-unsent}
 
 pub said-length : (l : List ℕ) (s : State) → length (said s l) ≤ leastOutput * length l

@@ -10,8 +10,8 @@ use lib.Seq.{take-all, take-length}
 use lib.Dec.{eqb}
 use lib.IntN.{ℤ}
 use mathlib.Core.Logic.{_⊎_, inl, inr}
-use Rattle.numbers.proofs.Cases.{never, true-or-false, cond-cases}
-use Rattle.gauges.specs.Frame.{exponentOf, mantissaOf}
+use Rattle.ground.proofs.Cases.{never, true-or-false, cond-cases}
+use Rattle.frames.specs.Measured.{exponentOf, mantissaOf}
 use Rattle.gauges.specs.Readings.{withinLimits}
 use Rattle.gauges.specs.declared.reading.Reading.{Reading}
 use Rattle.tpg.specs.Answers.{number, done, leastOutput}
@@ -21,7 +21,8 @@ use Rattle.tpg.specs.Calls.{admits, turnedAway, roomed, roomedBytes, hostText, 
 use Rattle.tpg.specs.declared.State.{State}
 use Rattle.tpg.specs.declared.answers.Outcome.{Outcome}
 use Rattle.tpg.proofs.Counts.{all-taken}
-use Rattle.frames.specs.Frames.{silent, sending, hostFrame, readingOf, readingFrame, ticksFrame, modelNumber, freshFrame, toldOf}
+use Rattle.frames.specs.Frames.{silent, sending, hostFrame, readingOf, readingFrame, ticksFrame, modelNumber, freshFrame}
+use Rattle.frames.specs.Walk.{toldOf}
 use Rattle.frames.specs.declared.taking.Told.{Told}
 
 -- a frame has a first byte where it is not 0

@@ -2,15 +2,16 @@
 use Prim.Native.Nat.{ℕ, _≤_}
 use mathlib.Core.Path.{_≡_, refl}
 use mathlib.Core.List.{List, []}
-use mathlib.Core.Bool.{Bool, true, false, _&&_}
+use mathlib.Core.Bool.{Bool, true, false, _&&_, and-eq-true-iff}
 use borrow.Author.Tests.{leb-true}
 use lib.ListN.{length, getD, drop}
 use lib.Dec.{leb, eqb}
-use Rattle.numbers.proofs.Cases.{and-true, cond-cases}
+use Rattle.ground.proofs.Cases.{cond-cases}
 use Rattle.tpg.specs.Steps.{over}
 use Rattle.tpg.specs.Calls.{cycleCall}
 use Rattle.tpg.specs.declared.State.{State}
-use Rattle.frames.specs.Frames.{Reply, longestFrame, noFrame, silent, hostFrame, readingFrame, ticksFrame, freshFrame, framed, toldOf}
+use Rattle.frames.specs.Frames.{Reply, longestFrame, noFrame, silent, hostFrame, readingFrame, ticksFrame, freshFrame, framed}
+use Rattle.frames.specs.Walk.{toldOf}
 use Rattle.frames.specs.declared.taking.Told.{Told}
 
 module _ (s : State) (f : List ℕ) (b : ℕ) (e : b ≡ getD f 0 0) where
@@ -59,7 +60,7 @@ module _ (P : Reply → Type 0) (s : State) (f : List ℕ) where
   unfolding framed
   framed-cases host reading ticks fresh cycle none =
       cond-cases P (eqb (getD f 0 0) 1 && leb (length f) longestFrame) _ _
-      (λ e. host (leb-true (length f) longestFrame (and-true (eqb (getD f 0 0) 1) (leb (length f) longestFrame) e .1)))
+      (λ e. host (leb-true (length f) longestFrame (and-eq-true-iff (eqb (getD f 0 0) 1) (leb (length f) longestFrame) .0 e .1)))
       (λ h. cond-cases P (eqb (getD f 0 0) 2 && eqb (length f) 9) _ _ (λ e. reading)
       (λ r. cond-cases P (eqb (getD f 0 0) 3 && eqb (length f) 2) _ _ (λ e. ticks)
       (λ t. cond-cases P (eqb (getD f 0 0) 4 && eqb (length f) 2) _ _ (λ e. fresh)

@@ -2,8 +2,9 @@
 use Prim.Native.Nat.{ℕ}
 use mathlib.Core.Path.{_≡_, refl}
 use mathlib.Core.List.{List, [], _∷_}
-use mathlib.Core.Bool.{false}
-use Rattle.gauges.specs.Frame.{exponentOf, mantissaOf}
+use mathlib.Core.Bool.{true, false}
+use lib.IntN.{pos, negsuc}
+use Rattle.frames.specs.Measured.{exponentOf, mantissaOf}
 use Rattle.tpg.specs.Calls.{readingCall}
 use Rattle.tpg.specs.declared.State.{State}
 use Rattle.frames.specs.Frames.{noFrame, silent, readingFrame, framed}
@@ -22,3 +23,7 @@ module _ (s : State) (channel kind status high middle low power : ℕ) where
       ≡ silent (readingCall s channel (record { kind = kind; status = status; value = record { mantissa = mantissaOf false high middle low; exponent = exponentOf power } }))
   unfolding framed readingFrame
   last-exponent = refl
+
+-- 10000 is 002710 in hexadecimal
+pub mantissa-bytes : mantissaOf false 0 39 16 ∷ mantissaOf true 0 39 16 ∷ [] ≡ pos 10000 ∷ negsuc 9999 ∷ []
+mantissa-bytes = refl

@@ -3,7 +3,7 @@ use Prim.Native.Nat.{ℕ}
 use mathlib.Core.List.{List}
 use lib.ListN.{getD, drop}
 use lib.Dec.{leb, eqb}
-use Rattle.numbers.proofs.Cases.{cond-cases}
+use Rattle.ground.proofs.Cases.{cond-cases}
 use Rattle.tpg.specs.Answers.{number}
 use Rattle.tpg.specs.States.{stateWithin, Sound}
 use Rattle.tpg.specs.Calls.{freshCall}

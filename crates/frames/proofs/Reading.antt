@@ -9,19 +9,10 @@ use borrow.Author.Tests.{le-leb, lt-leb}
 use lib.ListN.{length, getD, set, take, drop, length-set, drop-of-length-le}
 use lib.Seq.{take-suc-set, drop-cons, append-snoc}
 use lib.Dec.{leb}
-use Rattle.numbers.proofs.Cases.{never}
-use Rattle.frames.specs.Hex.{valueOf, isDigit, isHex, unhex}
-use Rattle.frames.specs.Frames.{bytesOf, longestFrame, readBytes}
-
-pub odd-not-hex : (l : List ℕ) → length l % 2 ≡ 1 → isHex l ≡ false
-unfolding isHex
-odd-not-hex [] h = never h
-odd-not-hex (a ∷ []) h = refl
-odd-not-hex (a ∷ b ∷ rest) h = rw (odd-not-hex rest (omega (arith, h))) (none (isDigit a && isDigit b))
-  where
-    none : (t : Bool) → t && false ≡ false
-    none true = refl
-    none false = refl
+use Rattle.ground.proofs.Cases.{never}
+use Rattle.text.specs.Hex.{valueOf, isDigit, isHex, unhex}
+use Rattle.frames.specs.Frames.{bytesOf, longestFrame}
+use Rattle.frames.specs.Walk.{readBytes}
 
 -- after i pairs of a line of so many
 pub record Read (line bytes : List ℕ) (count i : ℕ) : Type 0 where

@@ -5,14 +5,9 @@ use mathlib.Core.List.{List, [], _∷_, _++_}
 use native.Mathlib.Omega.{arith}
 use lib.ListN.{length, getD, set, take, drop, length-set, length-append, drop-of-length-le}
 use lib.Seq.{length-take-le, take-take, take-set-le, getD-take, drop-cons, set-at, append-snoc}
-use Rattle.numbers.proofs.Cases.{never}
+use Rattle.ground.proofs.Cases.{never}
 use Rattle.tpg.specs.Steps.{over}
-use Rattle.frames.specs.Hex.{digitOf, pair, hex}
-
-pub hex-length : (bs : List ℕ) → length (hex bs) ≡ 2 * length bs
-unfolding hex
-hex-length [] = refl
-hex-length (b ∷ bs) = omega (arith, hex-length bs)
+use Rattle.text.specs.Hex.{digitOf, pair, hex}
 
 -- two places next to each other
 two : (l : List ℕ) (n a b : ℕ) → suc n < length l → drop n (set (set l n a) (suc n) b) ≡ a ∷ b ∷ drop (suc (suc n)) l

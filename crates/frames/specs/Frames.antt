@@ -4,7 +4,7 @@ use mathlib.Core.List.{List, [], _∷_, _++_}
 use mathlib.Core.Bool.{cond, _&&_}
 use lib.ListN.{length, getD, drop}
 use lib.Dec.{leb, eqb}
-use Rattle.gauges.specs.Frame.{exponentOf, mantissaOf}
+use Rattle.frames.specs.Measured.{exponentOf, mantissaOf}
 use Rattle.gauges.specs.declared.reading.Reading.{Reading}
 use Rattle.tpg.specs.Answers.{number, leastOutput}
 use Rattle.tpg.specs.States.{stateWithin}
@@ -12,9 +12,9 @@ use Rattle.tpg.specs.Steps.{after, said}
 use Rattle.tpg.specs.Calls.{freshCall, readingCall, cycleCall, afterTicks, ticksText}
 use Rattle.tpg.specs.declared.State.{State}
 use Rattle.tpg.specs.declared.answers.Outcome.{Outcome}
-use Rattle.frames.specs.Hex.{isHex, unhex, hex}
+use Rattle.text.specs.Control.{lf}
+use Rattle.text.specs.Hex.{isHex, unhex, hex}
 use Rattle.frames.specs.declared.Answered.{Answered}
-use Rattle.frames.specs.declared.taking.Told.{Told}
 
 -- "one frame a line": its bytes; a line that is no hexadecimal has none
 unfoldable pub bytesOf : List ℕ → List ℕ
@@ -23,10 +23,6 @@ bytesOf line = cond (isHex line) (unhex line) []
 -- the longest frame: its first byte and 60 host bytes
 abbrev pub longestFrame : ℕ
 longestFrame = 61
-
--- the bytes of a line that are not too many for every form
-abbrev pub readBytes : List ℕ → List ℕ
-readBytes line = cond (leb (length line) (2 * longestFrame)) (bytesOf line) []
 
 -- what a frame gives: an answer number, the box after it, the bytes sent
 pub record Reply : Type 0 where
@@ -95,7 +91,7 @@ reply s line = framed s (bytesOf line)
 
 -- "answer number in two digits, then all bytes sent", and the end of the line
 abbrev pub lineOf : Reply → List ℕ
-lineOf r = hex (r .number ∷ r .bytes) ++ 10 ∷ []
+lineOf r = hex (r .number ∷ r .bytes) ++ lf ∷ []
 
 -- the most bytes that a frame sends: 255 ticks, each with a line of the stream
 abbrev pub mostSent : ℕ
@@ -115,7 +111,3 @@ answerCall s line room =
 -- and the output line
 unfoldable pub answerLine : State → List ℕ → ℕ → List ℕ
 answerLine s line room = cond (leb longestLine room) (lineOf (reply s line)) []
-
--- a reply as the crate hands it on: the bytes stand in the output, and their count beside it
-abbrev pub toldOf : Reply → Told
-toldOf r = record { number = r .number; state = r .state; count = length (r .bytes) }

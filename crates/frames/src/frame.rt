@@ -2,10 +2,11 @@
 ghost use mathlib.Core.Path.{_≡_};
 ghost use Prim.Native.Nat.{_≤_};
 ghost use lib.ListN.{length, take};
-ghost use Rattle.frames.specs.Frames.{longestFrame, readBytes};
+ghost use Rattle.frames.specs.Frames.{longestFrame};
+ghost use Rattle.frames.specs.Walk.{readBytes};
 use crate::LONGEST_FRAME;
-use crate::hex::NO_DIGIT;
-use crate::hex::value_of;
+use text::hex::NO_DIGIT;
+use text::hex::value_of;
 
 // two for each byte of the longest frame
 const MOST_DIGITS: usize = 2 * LONGEST_FRAME;

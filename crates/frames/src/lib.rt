@@ -6,7 +6,8 @@ ghost use Rattle.frames.specs.Frames.{answerCall, answerLine};
 use tpg::State;
 
 mod frame;
-mod hex;
+mod measured;
+mod spreading;
 mod taking;
 
 // The longest output line: 255 ticks with a line of the stream each.
@@ -46,6 +47,6 @@ pub fn answer(state: State, line: &[u8], out: &mut [u8]) -> Answered
     let len = frame::read(line, &mut bytes);
     let told = taking::take(state, &bytes[..len], out);
     let next = told.state;
-    let written = hex::spread(out, told.number, told.count);
+    let written = spreading::spread(out, told.number, told.count);
     handed(told.number, next, written)
 }

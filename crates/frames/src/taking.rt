@@ -4,10 +4,11 @@ ghost use Prim.Native.Nat.{_≤_};
 ghost use lib.ListN.{length, getD, drop};
 ghost use Rattle.tpg.specs.Answers.{number};
 ghost use Rattle.tpg.specs.Steps.{over};
-ghost use Rattle.frames.specs.Frames.{longestFrame, mostSent, noFrame, hostFrame, readingFrame, ticksFrame, modelNumber, freshFrame, framed, toldOf};
+ghost use Rattle.frames.specs.Frames.{longestFrame, mostSent, noFrame, hostFrame, readingFrame, ticksFrame, modelNumber, freshFrame, framed};
+ghost use Rattle.frames.specs.Walk.{toldOf};
 use crate::LONGEST_FRAME;
-use gauges::frame::exponent_of;
-use gauges::frame::mantissa_of;
+use crate::measured::exponent_of;
+use crate::measured::mantissa_of;
 use tpg::State;
 use tpg::answers::Outcome;
 

@@ -2,12 +2,11 @@
 use mathlib.Core.Path.{_≡_, refl}
 use mathlib.Core.Bool.{true, false}
 use mathlib.Core.List.{[], _∷_, map}
-use lib.IntN.{pos, negsuc}
+use lib.IntN.{pos}
 use Rattle.text.specs.Text.{ascii}
 use Rattle.text.specs.Digits.{bare}
 use Rattle.numbers.specs.Numbers.{less, isBelow, isAbove}
 use Rattle.numerals.specs.Writing.{scientific}
-use Rattle.gauges.specs.Frame.{mantissaOf}
 use Rattle.gauges.specs.Kinds.{kindName}
 use Rattle.gauges.specs.Readings.{zeroValue}
 use Rattle.gauges.specs.Shown.{shownText, switched}
@@ -25,7 +24,3 @@ status-digits = refl
 -- the last kinds, and a number that is none
 pub last-kinds : map kindName (5 ∷ 6 ∷ 7 ∷ 8 ∷ []) ≡ map ascii ("CMR/APR" ∷ "noSEn" ∷ "noid" ∷ "" ∷ [])
 last-kinds = refl
-
--- 10000 is 002710 in hexadecimal
-pub mantissa-bytes : mantissaOf false 0 39 16 ∷ mantissaOf true 0 39 16 ∷ [] ≡ pos 10000 ∷ negsuc 9999 ∷ []
-mantissa-bytes = refl

@@ -1,14 +1,13 @@
 -- What the limits of a reading tell: above all that status 5 is a channel without a reading and nothing else.
 use Prim.Native.Nat.{ℕ, zero, suc}
 use mathlib.Core.Path.{_≡_, refl, sym, ap, ap₂, _∙_}
-use mathlib.Core.Bool.{Bool, Bool·beq, true, false, not, _&&_, _||_}
+use mathlib.Core.Bool.{Bool, Bool·beq, true, false, not, _&&_, _||_, and-eq-true-iff}
 use native.Mathlib.Omega.{arith}
 use borrow.Author.Tests.{eq-eqb, eqb-true}
 use lib.Dec.{eqb}
 use lib.IntN.{ℤ, pos, negsuc, natAbs}
 use Rattle.numbers.specs.Numbers.{isZero}
 use Rattle.numbers.specs.declared.value.Value.{Value}
-use Rattle.numbers.proofs.Cases.{and-true}
 use Rattle.gauges.specs.Readings.{isKnown, inRange, sensorAgrees, identifierAgrees, withinLimits, zeroValue, noReading}
 use Rattle.gauges.specs.declared.reading.Reading.{Reading}
 
@@ -29,7 +28,7 @@ abs-zero (negsuc n) e = absurd (let h : suc n ≡ 0 = e in omega arith)
 -- zero is zero, in both parts
 pub zero-is : (v : Value) → isZero v ≡ true → v ≡ zeroValue
 zero-is v h =
-    let b = and-true (eqb (natAbs (v .mantissa)) 0) (eqb (natAbs (v .exponent)) 0) h in
+    let b = and-eq-true-iff (eqb (natAbs (v .mantissa)) 0) (eqb (natAbs (v .exponent)) 0) .0 h in
     ap₂ (λ (m e : ℤ). record { mantissa = m; exponent = e })
     (abs-zero (v .mantissa) (eqb-true _ _ (b .0)))
     (abs-zero (v .exponent) (eqb-true _ _ (b .1)))
@@ -37,20 +36,20 @@ zero-is v h =
 module _ (r : Reading) (h : withinLimits r ≡ true) where
   tests : (isKnown r && inRange (r .value) && sensorAgrees r ≡ true) × (identifierAgrees r ≡ true)
   unfolding withinLimits
-  tests = and-true (isKnown r && inRange (r .value) && sensorAgrees r) (identifierAgrees r) h
+  tests = and-eq-true-iff (isKnown r && inRange (r .value) && sensorAgrees r) (identifierAgrees r) .0 h
 
   ranges : (isKnown r && inRange (r .value) ≡ true) × (sensorAgrees r ≡ true)
-  ranges = and-true (isKnown r && inRange (r .value)) (sensorAgrees r) (tests .0)
+  ranges = and-eq-true-iff (isKnown r && inRange (r .value)) (sensorAgrees r) .0 (tests .0)
 
   pub known : isKnown r ≡ true
-  known = and-true (isKnown r) (inRange (r .value)) (ranges .0) .0
+  known = and-eq-true-iff (isKnown r) (inRange (r .value)) .0 (ranges .0) .0
 
   pub in-range : inRange (r .value) ≡ true
-  in-range = and-true (isKnown r) (inRange (r .value)) (ranges .0) .1
+  in-range = and-eq-true-iff (isKnown r) (inRange (r .value)) .0 (ranges .0) .1
 
   sensor : (eqb (r .status) 5 ≡ eqb (r .kind) 6) × (not (eqb (r .kind) 6) || isZero (r .value) ≡ true)
   sensor =
-      let s = and-true (Bool·beq (eqb (r .status) 5) (eqb (r .kind) 6)) (not (eqb (r .kind) 6) || isZero (r .value)) (ranges .1) in
+      let s = and-eq-true-iff (Bool·beq (eqb (r .status) 5) (eqb (r .kind) 6)) (not (eqb (r .kind) 6) || isZero (r .value)) .0 (ranges .1) in
       (same (eqb (r .status) 5) (eqb (r .kind) 6) (s .0), s .1)
 
   absent : eqb (r .kind) 6 ≡ true → r ≡ noReading

@@ -5,7 +5,7 @@ use mathlib.Core.List.{List, [], _∷_, _++_}
 use borrow.Author.Tests.{leb-true}
 use lib.Dec.{leb}
 use lib.ListN.{getD, length, take, drop}
-use Rattle.text.proofs.Tables.{listed, tabled, everywhere}
+use Rattle.ground.proofs.Tables.{entries, tabled, everywhere}
 use Rattle.gauges.specs.Kinds.{kindNames, kindName}
 
 abbrev joined : List (List ℕ) → List ℕ
@@ -16,7 +16,7 @@ abbrev names : List ℕ
 names = joined kindNames
 
 abbrev start : ℕ → ℕ
-start k = getD (listed (λ (i : ℕ). length (joined (take i kindNames))) 9 0) k 0
+start k = getD (entries (λ (i : ℕ). length (joined (take i kindNames))) 9 0) k 0
 
 module _ (k : ℕ) (h : k < 8) where
   pub in-order : start k ≤ start (k + 1)

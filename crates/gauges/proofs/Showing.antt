@@ -1,7 +1,7 @@
 -- A shown value is the nearest to the exact one in every unit, is a number that two exponent digits write, and switches on good data alone.
 use Prim.Native.Nat.{ℕ, _*_, _≤_}
 use mathlib.Core.Path.{_≡_, refl, sym, ap, ap₂, _∙_}
-use mathlib.Core.Bool.{Bool, true, false, cond, false≢true, _&&_}
+use mathlib.Core.Bool.{Bool, true, false, cond, false≢true, _&&_, and-eq-true-iff}
 use mathlib.Core.Logic.{_⊎_, inl, inr, ⊎-elim}
 use native.Mathlib.Omega.{arith}
 use borrow.Author.Tests.{le-leb, leb-true, eqb-true}
@@ -14,16 +14,16 @@ use Rattle.numbers.specs.Numbers.{between, isZero, isFive, isNumber, isBelow, i
 use Rattle.numbers.specs.Rounding.{isUsable, scaledBy, Nearest}
 use Rattle.numbers.specs.declared.threshold.Threshold.{Threshold}
 use Rattle.numbers.specs.declared.value.Value.{Value}
-use Rattle.numbers.proofs.Cases.{and-true, or-true, or-right, cond-cases}
+use Rattle.ground.proofs.Cases.{or-either, or-right, cond-cases}
 use Rattle.numbers.proofs.Signed.{between-near, near-between}
 use Rattle.numbers.proofs.Scaling.{scaled-nearest, scaled-five, scaled-near, scaled-sign, scaled-not}
 use Rattle.numerals.specs.Writing.{scientific, valueText}
 use Rattle.gauges.specs.Readings.{inRange, withinLimits, zeroValue}
-use Rattle.gauges.specs.Units.{fromHpa}
+use Rattle.numbers.specs.Units.{fromHpa}
 use Rattle.gauges.specs.Shown.{absentShows, inHpa, shownOf, shownText, switched}
 use Rattle.gauges.specs.declared.reading.Reading.{Reading}
 use Rattle.gauges.specs.declared.shown.Shown.{Shown}
-use Rattle.gauges.proofs.Factors.{usable}
+use Rattle.numbers.proofs.Factors.{usable}
 use Rattle.gauges.proofs.Limits.{zero-is, known, in-range}
 
 module _ (r : Reading) (unit : ℕ) (five : isFive (inHpa r) ≡ true) where
@@ -58,10 +58,10 @@ module _ (r : Reading) (unit : ℕ) (h : withinLimits r ≡ true) where
       (λ e. refl) (λ e. in-range r h)
 
   limits : (isNumber (inHpa r) ≡ true) × (between (negsuc 19) (pos 20) (inHpa r .exponent) ≡ true)
-  limits = and-true (isNumber (inHpa r)) (between (negsuc 19) (pos 20) (inHpa r .exponent)) to-show
+  limits = and-eq-true-iff (isNumber (inHpa r)) (between (negsuc 19) (pos 20) (inHpa r .exponent)) .0 to-show
 
   zero-or-five : (isZero (inHpa r) ≡ true) ⊎ (isFive (inHpa r) ≡ true)
-  zero-or-five = or-true (isZero (inHpa r)) (isFive (inHpa r)) (limits .0)
+  zero-or-five = or-either (isZero (inHpa r)) (isFive (inHpa r)) (limits .0)
 
   -- its exponent has two digits
   pub shown-exponent : natAbs (shownOf r unit .value .exponent) ≤ 45
@@ -87,7 +87,7 @@ module _ (r : Reading) (unit : ℕ) (h : withinLimits r ≡ true) where
   pub shown-length : length (shownText (shownOf r unit)) ≡ 13
   unfolding scientific
   shown-length =
-      let six = leb-true (r .status) 6 (and-true (leb (r .kind) 7) (leb (r .status) 6) (known r h) .1) in
+      let six = leb-true (r .status) 6 (and-eq-true-iff (leb (r .kind) 7) (leb (r .status) 6) .0 (known r h) .1) in
       rw (whole-digit (r .status) (omega arith))
 
 on-tests : (good low high was : Bool) → cond good (cond low true (cond high false was)) false ≡ true

@@ -1,5 +1,3 @@
 pub mod Readings
-pub mod Units
 pub mod Shown
 pub mod Kinds
-pub mod Frame

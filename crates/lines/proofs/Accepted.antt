@@ -3,18 +3,17 @@ use Prim.Native.Nat.{ℕ, suc, _≤_, _<_}
 use Prim.Native.Char.{code}
 use mathlib.Core.Path.{_≡_, refl, ap, ap₂, _∙_}
 use mathlib.Core.List.{List, [], _∷_, _++_, map}
-use mathlib.Core.Bool.{Bool, true, not, _&&_}
+use mathlib.Core.Bool.{Bool, true, not, _&&_, and-eq-true-iff}
 use native.Mathlib.Omega.{arith}
 use borrow.Author.Tests.{ltb-true, lt-ltb, eq-eqb, not-true}
 use lib.ListN.{length, getD, take}
 use lib.Dec.{eqb, ltb}
 use Rattle.numbers.specs.declared.threshold.Threshold.{Threshold}
-use Rattle.numbers.proofs.Cases.{and-true}
 use Rattle.settings.specs.Models.{channels, defaults}
 use Rattle.settings.specs.Mnemonics.{sheet, known, name, same, found, recognised, channelOf}
 use Rattle.settings.specs.Kinds.{kinds, storedKinds}
 use Rattle.settings.specs.Rows.{plain, row, listed, cells}
-use Rattle.settings.specs.Lists.{every, Each}
+use Rattle.ground.specs.Members.{every, Each}
 use Rattle.settings.specs.Limits.{fits, within}
 use Rattle.settings.specs.declared.model.Model.{Model}
 use Rattle.settings.specs.declared.model.Model.the-variants.{Tpg361, Tpg362}
@@ -25,7 +24,7 @@ use Rattle.settings.specs.declared.mnemonic.Named.the-variants.{Known}
 use Rattle.settings.specs.declared.kinds.Kind.{Kind}
 use Rattle.settings.specs.declared.kinds.Kind.the-variants.{Threshold as Level}
 use Rattle.settings.specs.declared.Settings.{Settings}
-use Rattle.settings.proofs.Lists.{each-map, each-both, every-each, map-each}
+use Rattle.ground.proofs.Members.{each-map, each-both, every-each, map-each}
 use Rattle.settings.proofs.Places.{row-places}
 use Rattle.settings.proofs.Storing.{Holding}
 use Rattle.settings.proofs.Sheets.{sheet-holding, on-sheet, few, within-rows, sheet-each}
@@ -158,8 +157,8 @@ sheet-takes Tpg362 = refl
 taking-by : (model : Model) (m : Mnemonic) → taking model m ≡ true → Taking model m
 unfolding taking
 taking-by model m t =
-    let a = and-true (ltb (channelOf m) (channels model)) _ t in
-    let b = and-true (ltb 0 (length (kinds model m))) _ (a .1) in
+    let a = and-eq-true-iff (ltb (channelOf m) (channels model)) _ .0 t in
+    let b = and-eq-true-iff (ltb 0 (length (kinds model m))) _ .0 (a .1) in
     record { there = ltb-true _ _ (a .0); some = ltb-true _ _ (b .0); sounds = every-each sound (kinds model m) (b .1) }
 
 -- ---- the settings of the sheet

@@ -5,7 +5,7 @@ use mathlib.Core.List.{List, [], _∷_}
 use mathlib.Core.Bool.{true}
 use lib.ListN.{length, drop}
 use lib.Dec.{eqb}
-use Rattle.numbers.proofs.Cases.{cond-cases, never}
+use Rattle.ground.proofs.Cases.{cond-cases, never}
 use Rattle.settings.specs.Models.{channels}
 use Rattle.settings.specs.Mnemonics.{channelOf, hasReply, answers}
 use Rattle.settings.specs.Kinds.{kinds}

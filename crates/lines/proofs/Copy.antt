@@ -13,8 +13,8 @@ use Rattle.settings.specs.declared.mnemonic.Setting.{Setting}
 use Rattle.settings.specs.declared.mnemonic.Mnemonic.the-variants.{Setting as Of}
 use Rattle.settings.specs.declared.rows.Row.{Row}
 use Rattle.settings.specs.declared.Settings.{Settings}
-use Rattle.settings.specs.Lists.{Each}
-use Rattle.settings.proofs.Lists.{each-both, each-take, each-drop, map-each}
+use Rattle.ground.specs.Members.{Each}
+use Rattle.ground.proofs.Members.{each-both, each-take, each-drop, map-each}
 use Rattle.settings.proofs.Storing.{Holding, mixed-front, stored-row, stored-others, stored-shaped, upto-three}
 use Rattle.settings.proofs.Sheets.{sheet-holding, on-sheet, Distinct, sheet-distinct, distinct-cut, distinct-take, few, cells-row, sheet-decides}
 use Rattle.settings.proofs.Keeping.{fitting-canon}

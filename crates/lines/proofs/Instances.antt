@@ -4,12 +4,13 @@ use mathlib.Core.Bool.{true, false}
 use mathlib.Core.List.{[], _∷_, map}
 use Rattle.text.specs.Text.{ascii}
 use Rattle.text.specs.Page.{put, puts, Page}
-use Rattle.text.specs.Digits.{bare}
+use Rattle.text.specs.Digits.{bare, binary}
 use Rattle.settings.specs.Models.{defaults}
 use Rattle.settings.specs.declared.model.Model.{Model}
 use Rattle.settings.specs.declared.model.Model.the-variants.{Tpg361, Tpg362}
-use Rattle.lines.specs.Replies.{settingText, factorsText, lineEnd}
-use Rattle.lines.specs.Words.{digit, wordText, noError, gathered}
+use Rattle.lines.specs.Replies.{settingText, factorsText}
+use Rattle.text.specs.Control.{crLf}
+use Rattle.lines.specs.Words.{wordText, noError, gathered}
 use Rattle.lines.specs.declared.verdict.Fault.the-variants.{Syntax, Hardware}
 
 -- "answers one per channel"
@@ -18,10 +19,10 @@ unfolding bare settingText
 default-factors = refl
 
 -- CR, then LF
-pub line-ends : (t : Page) → puts t lineEnd ≡ put (put t 13) 10
+pub line-ends : (t : Page) → puts t crLf ≡ put (put t 13) 10
 line-ends t = refl
 
-pub digits-are : map digit (true ∷ false ∷ []) ≡ ascii "10"
+pub digits-are : map binary (true ∷ false ∷ []) ≡ ascii "10"
 digits-are = refl
 
 -- no hardware, then syntax

@@ -11,7 +11,7 @@ use lib.ListN.{length, getD, take, drop, drop-of-length-le, length-drop}
 use lib.Seq.{drop-cons, drop-drop}
 use lib.Dec.{eqb, ltb}
 use Rattle.numerals.specs.Digits.{part}
-use Rattle.numbers.proofs.Cases.{below, cond-cases}
+use Rattle.ground.proofs.Cases.{below, cond-cases}
 use Rattle.numbers.specs.declared.threshold.Threshold.{Threshold}
 use Rattle.settings.specs.Models.{channels}
 use Rattle.settings.specs.Mnemonics.{recognised, channelOf}

@@ -20,7 +20,8 @@ use Rattle.settings.specs.declared.Settings.{Settings}
 use Rattle.settings.proofs.Sheets.{few}
 use Rattle.lines.specs.Splitting.{joined}
 use Rattle.lines.specs.Fields.{write}
-use Rattle.lines.specs.Replies.{texts, more, settingText}
+use Rattle.lines.specs.Replies.{texts, settingText}
+use Rattle.lines.specs.Walk.{more}
 
 pub setting-none : (model : Model) (s : Settings) (x : Setting) → length (kinds model (Of x)) ≡ 0 → settingText model s x ≡ []
 unfolding settingText

@@ -25,14 +25,6 @@ texts (k ∷ ks) (c ∷ cs) = write k c ∷ texts ks cs
 unfoldable pub settingText : Model → Settings → Setting → List ℕ
 settingText model s x = joined (texts (kinds model (Of x)) (cells model s x))
 
--- a comma and one cell more, where there is one
-abbrev pub more : Bool → Kind → Threshold → List ℕ
-more has kind cell = cond has (code "," ∷ write kind cell) []
-
 -- "CFx takes one factor and answers one per channel": those of CAL
 abbrev pub factorsText : Model → Settings → List ℕ
 factorsText model s = settingText model s Cal
-
--- CR LF
-abbrev pub lineEnd : List ℕ
-lineEnd = 13 ∷ 10 ∷ []

@@ -1,13 +1,15 @@
--- How the code walks a line, field after field, said of the line's bytes.
+-- How the code walks a line, field after field, said of the line's bytes, and a reply, cell after cell.
 use Prim.Native.Nat.{ℕ, _≤_}
+use Prim.Native.Char.{code}
 use mathlib.Core.Path.{_≡_}
-use mathlib.Core.List.{List}
+use mathlib.Core.List.{List, [], _∷_}
 use mathlib.Core.Bool.{Bool, cond}
 use lib.ListN.{length, drop}
 use Rattle.settings.specs.Rows.{plain}
+use Rattle.numbers.specs.declared.threshold.Threshold.{Threshold}
 use Rattle.settings.specs.declared.kinds.Kind.{Kind}
 use Rattle.lines.specs.Splitting.{word, behind}
-use Rattle.lines.specs.Fields.{read}
+use Rattle.lines.specs.Fields.{read, write}
 use Rattle.lines.specs.declared.verdict.Field.{Field}
 use Rattle.lines.specs.declared.verdict.Field.the-variants.{Held}
 use Rattle.lines.specs.declared.fields.Got.{Got}
@@ -25,3 +27,7 @@ pub record Taken (has : Bool) (kind : Kind) (s : List ℕ) (a : ℕ) (r : Got) :
   pub field : r .field ≡ headField has kind (drop a s)
   pub rest : drop (r .next) s ≡ beyond has (drop a s)
   pub inside : r .next ≤ length s
+
+-- a comma and one cell more, where there is one
+abbrev pub more : Bool → Kind → Threshold → List ℕ
+more has kind cell = cond has (code "," ∷ write kind cell) []

@@ -2,18 +2,15 @@
 use Prim.Native.Nat.{ℕ}
 use Prim.Native.Char.{code}
 use mathlib.Core.List.{List, [], _∷_}
-use mathlib.Core.Bool.{Bool, true, false, cond}
+use mathlib.Core.Bool.{true, false}
+use Rattle.text.specs.Digits.{binary}
 use Rattle.lines.specs.declared.verdict.Fault.{Fault}
 use Rattle.lines.specs.declared.verdict.Fault.the-variants.{Syntax, Parameter, Hardware}
 use Rattle.lines.specs.declared.word.Word.{Word}
 
--- a digit that is 0 or 1
-abbrev pub digit : Bool → ℕ
-digit on = cond on (code "1") (code "0")
-
 -- "The error word is four digits: 0100 no hardware, 0010 inadmissible parameter, 0001 syntax"; "1000 never arises here."
 abbrev pub wordText : Word → List ℕ
-wordText w = code "0" ∷ digit (w .hardware) ∷ digit (w .parameter) ∷ digit (w .syntax) ∷ []
+wordText w = code "0" ∷ binary (w .hardware) ∷ binary (w .parameter) ∷ binary (w .syntax) ∷ []
 
 -- "then it is 0000"
 abbrev pub noError : Word

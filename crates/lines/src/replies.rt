@@ -3,7 +3,9 @@ ghost use mathlib.Core.Path.{_≡_};
 ghost use mathlib.Core.List.{_++_};
 ghost use Rattle.text.specs.Page.{page, puts};
 ghost use Rattle.lines.specs.Fields.{write};
-ghost use Rattle.lines.specs.Replies.{more, settingText, factorsText, lineEnd};
+ghost use Rattle.lines.specs.Replies.{settingText, factorsText};
+ghost use Rattle.lines.specs.Walk.{more};
+ghost use Rattle.text.specs.Control.{crLf};
 use numbers::threshold::Threshold;
 use numerals::writing::write_threshold;
 use settings::Settings;
@@ -12,6 +14,8 @@ use settings::mnemonic::Mnemonic;
 use settings::mnemonic::Setting;
 use settings::model::Model;
 use text::append;
+use text::control::CR;
+use text::control::LF;
 use text::digits::factor;
 use text::digits::whole;
 use text::put;
@@ -57,14 +61,14 @@ fn write_setting(out: &mut [u8], at: usize, model: Model, s: Settings, x: Settin
 
 // CR LF.
 pub fn end_line(out: &mut [u8], at: usize) -> usize
-    ensures { λ r. ⌜ page (now (out .exit)) r ≡ puts (page (now (out .entry)) at) lineEnd ⌝ }
+    ensures { λ r. ⌜ page (now (out .exit)) r ≡ puts (page (now (out .entry)) at) crLf ⌝ }
 {
-    append(out, at, &[13, 10])
+    append(out, at, &[CR, LF])
 }
 
 // What the box sends when it is asked for a setting.
 pub fn setting_reply(out: &mut [u8], at: usize, model: Model, s: Settings, x: Setting) -> usize
-    ensures { λ r. ⌜ page (now (out .exit)) r ≡ puts (page (now (out .entry)) at) (settingText model s x ++ lineEnd) ⌝ }
+    ensures { λ r. ⌜ page (now (out .exit)) r ≡ puts (page (now (out .entry)) at) (settingText model s x ++ crLf) ⌝ }
 {
     let a = write_setting(out, at, model, s, x);
     end_line(out, a)
@@ -72,7 +76,7 @@ pub fn setting_reply(out: &mut [u8], at: usize, model: Model, s: Settings, x: Se
 
 // What the box sends when it is asked for CF1 or CF2: the factors of all its channels.
 pub fn factors_reply(out: &mut [u8], at: usize, model: Model, s: Settings) -> usize
-    ensures { λ r. ⌜ page (now (out .exit)) r ≡ puts (page (now (out .entry)) at) (factorsText model s ++ lineEnd) ⌝ }
+    ensures { λ r. ⌜ page (now (out .exit)) r ≡ puts (page (now (out .entry)) at) (factorsText model s ++ crLf) ⌝ }
 {
     setting_reply(out, at, model, s, Setting::Cal)
 }

@@ -1,9 +1,10 @@
 // The error word: a digit for each fault, gathered until the word is sent.
 ghost use mathlib.Core.Path.{_≡_};
 ghost use Rattle.text.specs.Page.{page, puts};
-ghost use Rattle.lines.specs.Words.{digit, wordText, noError, gathered};
+ghost use Rattle.lines.specs.Words.{wordText, noError, gathered};
 use crate::verdict::Fault;
 use text::append;
+use text::digits::binary;
 
 pub struct Word {
     pub hardware: bool,
@@ -44,19 +45,12 @@ impl Word {
     }
 }
 
-// A digit that is 0 or 1.
-pub fn digit_of(on: bool) -> u8
-    ensures { λ r. ⌜ r ≡ digit on ⌝ }
-{
-    if on { b'1' } else { b'0' }
-}
-
 // The four digits of the word put into out from `at` on.
 pub fn write_word(out: &mut [u8], at: usize, w: Word) -> usize
     ensures { λ r. ⌜ page (now (out .exit)) r ≡ puts (page (now (out .entry)) at) (wordText w) ⌝ }
 {
-    let a = digit_of(w.hardware);
-    let b = digit_of(w.parameter);
-    let c = digit_of(w.syntax);
+    let a = binary(w.hardware);
+    let b = binary(w.parameter);
+    let c = binary(w.syntax);
     append(out, at, &[b'0', a, b, c])
 }

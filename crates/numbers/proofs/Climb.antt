@@ -6,7 +6,7 @@ use native.Mathlib.Omega.{arith}
 use native.Mathlib.Nat.{pow-suc, pow-succ', mul-assoc}
 use native.Mathlib.Numerals.{add-one}
 use borrow.Author.Tests.{lt-ltb, le-ltb}
-use Rattle.numbers.proofs.Cases.{below}
+use Rattle.ground.proofs.Cases.{below}
 use Rattle.numbers.specs.Rounding.{climbWithin, climb}
 
 within-reaches : (fuel n to : ℕ) → to ≤ n * 10 ^ fuel → to ≤ n * 10 ^ climbWithin fuel n to

@@ -7,7 +7,7 @@ use native.Mathlib.Nat.{one-le-pow, eq-of-mul-eq-mul-right}
 use lib.Pow.{pow-add}
 use borrow.Author.Tests.{lt-ltb, le-ltb}
 use lib.IntN.{ℤ, pos, negsuc, _+ℤ_, _-ℤ_, +ℤ-comm, +ℤ-assoc, +ℤ-idr, +ℤ-invl, -ℤ-+ℤ-cancel}
-use Rattle.numbers.proofs.Cases.{below}
+use Rattle.ground.proofs.Cases.{below}
 use Rattle.numbers.specs.Numbers.{tens, tenths}
 
 pub tens-some : (e : ℤ) → 0 < tens e

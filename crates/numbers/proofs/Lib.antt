@@ -1,4 +1,3 @@
-pub mod Cases
 pub mod Signed
 pub mod Climb
 pub mod Fractions
@@ -7,3 +6,4 @@ pub mod Scaling
 pub mod Stops
 pub mod Order
 pub mod Instances
+pub mod Factors

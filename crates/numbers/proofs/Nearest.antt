@@ -8,7 +8,7 @@ use lib.Pow.{pow-add}
 use borrow.Author.Tests.{eqb-true, eqb-false, ne-eqb}
 use lib.Dec.{eqb}
 use lib.IntN.{ℤ, pos, natAbs, _+ℤ_, _-ℤ_, +ℤ-idr, -ℤ-+ℤ-cancel, +ℤ-negℤ-cancel}
-use Rattle.numbers.proofs.Cases.{below, cond-cases}
+use Rattle.ground.proofs.Cases.{below, cond-cases}
 use Rattle.numbers.proofs.Climb.{climb-reaches, climb-enough, climb-none, climb-short}
 use Rattle.numbers.proofs.Signed.{abs-add, abs-minus}
 use Rattle.numbers.proofs.Fractions.{tens-some, tenths-some, tens-more, tens-apart, tens-level}

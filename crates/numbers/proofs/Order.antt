@@ -1,7 +1,7 @@
 -- The order of numbers of five digits: the exponents decide, and where they are equal the digits. A value beside a threshold.
 use Prim.Native.Nat.{ℕ, zero, suc, _*_, _^_, _≤_, _<_}
 use mathlib.Core.Path.{_≡_, refl, sym, ap, _∙_, subst}
-use mathlib.Core.Bool.{Bool, true, false, _&&_}
+use mathlib.Core.Bool.{Bool, true, false, _&&_, and-eq-true-iff}
 use mathlib.Core.Logic.{⊎-elim}
 use native.Mathlib.Omega.{arith}
 use native.Mathlib.Nat.{pow-suc, pow-le-pow-right, one-le-pow, zero-mul, mul-pos, mul-le-mul, mul-le-mul-right, mul-lt-mul-of-pos-right, le-antisymm, le-of-lt}
@@ -12,7 +12,7 @@ use lib.Signed.{ltZ, leZ, nonNeg, pos-natAbs}
 use mir.Syntax.{w32}
 use mir.Val.{Fits, SFits, toZ, ofZ}
 use mir.Facts.{toZ-ofZ, fits-natAbs}
-use Rattle.numbers.proofs.Cases.{below, and-true, ranged}
+use Rattle.ground.proofs.Cases.{below, ranged}
 use Rattle.numbers.proofs.Stops.{stops-digits}
 use Rattle.numbers.proofs.Fractions.{tens-some, tenths-some}
 use Rattle.numbers.specs.Numbers.{isNumber, withinStops, tens, tenths, less, isBelow, isAbove}
@@ -119,8 +119,8 @@ module _ (v : Value) (t : Threshold) where
   pub below-not-above : isBelow v t ≡ true → isAbove v t ≡ false
   unfolding isBelow
   below-not-above h =
-      let a = and-true (isNumber v) _ h in
-      let b = and-true (withinStops t) _ (a .1) in
+      let a = and-eq-true-iff (isNumber v) _ .0 h in
+      let b = and-eq-true-iff (withinStops t) _ .0 (a .1) in
       above-is-less (a .0) (b .0) ∙ less-not-both (v .mantissa) (v .exponent) (pos (t .mantissa)) (t .exponent) (b .1)
 
 -- What `is_below` and `is_above` start from: the answers n and w, and that 32 bits hold each number that they read.
@@ -138,10 +138,10 @@ read z = toZ w32 (ofZ w32 z)
 module _ {v : Value} {t : Threshold} {n w : Bool} (beside : Beside v t n w) where
   module _ (comparable : n && w ≡ true) where
     is-number : isNumber v ≡ true
-    is-number = sym (beside .number) ∙ and-true n w comparable .0
+    is-number = sym (beside .number) ∙ and-eq-true-iff n w .0 comparable .0
 
     is-within : withinStops t ≡ true
-    is-within = sym (beside .within) ∙ and-true n w comparable .1
+    is-within = sym (beside .within) ∙ and-eq-true-iff n w .0 comparable .1
 
     stop-digits : (10000 ≤ t .mantissa) × (t .mantissa ≤ 99999)
     stop-digits = stops-digits t is-within
@@ -167,7 +167,7 @@ module _ {v : Value} {t : Threshold} {n w : Bool} (beside : Beside v t n w) wher
       value-digits : (10000 ≤ natAbs (v .mantissa)) × (natAbs (v .mantissa) ≤ 99999)
       value-digits =
           let h = rw (ne-eqb (natAbs (v .mantissa)) 0 (not-zero (v .mantissa) positive)) at is-number in
-          ranged 10000 99999 (natAbs (v .mantissa)) (and-true _ _ h .0)
+          ranged 10000 99999 (natAbs (v .mantissa)) (and-eq-true-iff _ _ .0 h .0)
 
       pub positive-cast : T (nonNeg (read (v .mantissa))) × Fits w32 (natAbs (read (v .mantissa)))
       positive-cast = rw (toZ-ofZ (beside .digits)) (not-negative (v .mantissa) positive, fits-natAbs tt (beside .digits))

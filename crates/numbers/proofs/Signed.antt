@@ -1,7 +1,7 @@
 -- What code on signed numbers leaves: a local holds bits, so each use reads toZ w (ofZ w x), which is x where x fits.
 use Prim.Native.Nat.{ℕ, zero, suc, _+_, _-_, _^_, _≤_, _<_}
 use mathlib.Core.Path.{_≡_, refl, subst}
-use mathlib.Core.Bool.{Bool, true, false, cond}
+use mathlib.Core.Bool.{Bool, true, false, cond, and-eq-true-iff}
 use mathlib.Core.Logic.{⊎-elim}
 use native.Mathlib.Omega.{arith}
 use borrow.Author.Tests.{ltb-true, leb-true, leb-false, le-leb, le-ltb}
@@ -11,7 +11,7 @@ use lib.Signed.{mag, ltZ, nonNeg, natAbs-le}
 use mir.Syntax.{w32, w64}
 use mir.Val.{SFits}
 use Rattle.numbers.specs.Numbers.{between}
-use Rattle.numbers.proofs.Cases.{below, true-or-false, and-true}
+use Rattle.ground.proofs.Cases.{below, true-or-false}
 
 mag-le : (z : ℤ) → mag z ≤ natAbs z
 mag-le (pos n) = omega arith
@@ -62,7 +62,7 @@ abs-minus a b = omega (arith, abs-add a (negℤ b), abs-neg b)
 -- an exponent within limits as far below zero as above it
 pub between-near : (k : ℕ) (e : ℤ) → between (negsuc k) (pos (suc k)) e ≡ true → natAbs e ≤ suc k
 between-near k (pos n) h = leb-true n (suc k) h
-between-near k (negsuc n) h = omega (arith, leb-true n k (and-true (leb n k) true h .0))
+between-near k (negsuc n) h = omega (arith, leb-true n k (and-eq-true-iff (leb n k) true .0 h .0))
 
 pub between-far : (k : ℕ) (e : ℤ) → between (negsuc k) (pos (suc k)) e ≡ false → suc k < natAbs e
 between-far k (pos n) h = leb-false n (suc k) h

@@ -1,13 +1,13 @@
 -- Numbers fitted to the end stops: what each exit of the definition asks, and that what fits is the nearest within them.
 use Prim.Native.Nat.{ℕ, _≤_, _<_, _^_}
 use mathlib.Core.Path.{_≡_, subst}
-use mathlib.Core.Bool.{true, false}
+use mathlib.Core.Bool.{true, false, and-eq-true-iff}
 use mathlib.Core.Logic.{⊎-elim}
 use native.Mathlib.Omega.{arith}
 use borrow.Author.Tests.{eq-eqb, ne-eqb, eqb-false}
 use lib.Dec.{eqb}
 use lib.IntN.{ℤ, pos, negsuc, natAbs}
-use Rattle.numbers.proofs.Cases.{and-true, true-or-false, cond-cases, ranged}
+use Rattle.ground.proofs.Cases.{true-or-false, cond-cases, ranged}
 use Rattle.numbers.proofs.Nearest.{rounded-far, rounded-nearest}
 use Rattle.numbers.proofs.Signed.{between-near, between-far}
 use Rattle.numbers.specs.Numbers.{fiveDigits, between, withinStops}
@@ -17,10 +17,10 @@ use Rattle.numbers.specs.declared.threshold.Fitted.{Fitted}
 use Rattle.numbers.specs.declared.threshold.Fitted.the-variants.{Within, Outside}
 
 pub stops-digits : (t : Threshold) → withinStops t ≡ true → (10000 ≤ t .mantissa) × (t .mantissa ≤ 99999)
-stops-digits t h = ranged 10000 99999 (t .mantissa) (and-true (fiveDigits (t .mantissa)) (between (negsuc 19) (pos 20) (t .exponent)) h .0)
+stops-digits t h = ranged 10000 99999 (t .mantissa) (and-eq-true-iff (fiveDigits (t .mantissa)) (between (negsuc 19) (pos 20) (t .exponent)) .0 h .0)
 
 pub stops-near : (t : Threshold) → withinStops t ≡ true → natAbs (t .exponent) ≤ 20
-stops-near t h = between-near 19 (t .exponent) (and-true (fiveDigits (t .mantissa)) (between (negsuc 19) (pos 20) (t .exponent)) h .1)
+stops-near t h = between-near 19 (t .exponent) (and-eq-true-iff (fiveDigits (t .mantissa)) (between (negsuc 19) (pos 20) (t .exponent)) .0 h .1)
 
 module _ (n : ℕ) (x : ℤ) where
   pub fitted-zero : n ≡ 0 → Outside ≡ fittedTo n x

@@ -17,7 +17,7 @@ use Rattle.numerals.specs.declared.threshold.Power.{Power}
 use Rattle.numerals.specs.declared.threshold.Power.the-variants.{Ten, NoPower}
 use Rattle.numerals.specs.declared.whole.Numeral.{Numeral}
 use Rattle.numerals.specs.declared.whole.Numeral.the-variants.{Number, Malformed}
-use Rattle.numbers.proofs.Cases.{cond-cases, or-true}
+use Rattle.ground.proofs.Cases.{cond-cases, or-either}
 use Rattle.numerals.proofs.Runs.{drop-one, head-in}
 use Rattle.numbers.proofs.Signed.{abs-neg}
 use Rattle.numerals.proofs.Wholes.{number-read}
@@ -33,7 +33,7 @@ module _ (i : ℕ) (s : List ℕ) where
 
   -- a sign that is there has a place
   pub sign-in : headIs (code "-") (drop i s) || headIs (code "+") (drop i s) ≡ true → i < length s
-  sign-in e = ⊎-elim (head-in (code "-") i s) (head-in (code "+") i s) (or-true _ _ e)
+  sign-in e = ⊎-elim (head-in (code "-") i s) (head-in (code "+") i s) (or-either _ _ e)
 
   pub power-none : i ≡ length s → Ten (pos 0) ≡ powerOf (drop i s)
   unfolding powerOf

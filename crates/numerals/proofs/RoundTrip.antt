@@ -13,7 +13,7 @@ use lib.Dec.{eqb}
 use lib.ListN.{length}
 use lib.IntN.{ℤ, pos, negsuc, natAbs, _-ℤ_}
 use Rattle.text.specs.Digits.{dig, bare, wholeText, factorText}
-use Rattle.numbers.proofs.Cases.{below}
+use Rattle.ground.proofs.Cases.{below}
 use Rattle.text.proofs.Decimals.{dig-length}
 use Rattle.numbers.specs.Numbers.{withinStops}
 use Rattle.numerals.specs.Writing.{signByte, scientific, thresholdText}

@@ -12,7 +12,7 @@ use lib.ListN.{length, getD, drop, take, drop-of-length-le, length-drop}
 use lib.Seq.{drop-cons, drop-drop, take-all, length-take-le}
 use lib.Dec.{T, leb, eqb}
 use Rattle.numerals.specs.Digits.{part, isDigit, lead, rest, headIs, value}
-use Rattle.numbers.proofs.Cases.{below}
+use Rattle.ground.proofs.Cases.{below}
 
 module _ (i : ℕ) (s : List ℕ) where
   pub head-at : (c : ℕ) → i < length s → headIs c (drop i s) ≡ eqb (getD s i 0) c

@@ -7,7 +7,7 @@ use mathlib.Core.Bool.{Bool, true, false, cond}
 use native.Mathlib.Omega.{arith}
 use lib.ListN.{length, drop}
 use lib.IntN.{ℤ, pos, _-ℤ_}
-use Rattle.numbers.proofs.Cases.{cond-cases, ranged, never}
+use Rattle.ground.proofs.Cases.{cond-cases, ranged, never}
 use Rattle.numbers.proofs.Stops.{fitted-stops, fitted-nearest}
 use Rattle.numbers.specs.Numbers.{withinStops}
 use Rattle.numbers.specs.Rounding.{fittedTo, Nearest}

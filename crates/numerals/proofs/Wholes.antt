@@ -3,7 +3,7 @@ use Prim.Native.Nat.{ℕ, _+_, _-_, _*_, _^_, _≤_, _<_}
 use Prim.Native.Char.{code}
 use mathlib.Core.Path.{_≡_, refl, sym, ap, ap₂, _∙_}
 use mathlib.Core.List.{List}
-use mathlib.Core.Bool.{Bool, true, false, cond, _&&_}
+use mathlib.Core.Bool.{Bool, true, false, cond, _&&_, and-eq-true-iff}
 use native.Mathlib.Omega.{arith}
 use borrow.Author.Tests.{le-leb, leb-true, eq-eqb, ne-eqb, eqb-true}
 use lib.ListN.{length, drop, length-drop}
@@ -11,7 +11,7 @@ use lib.Dec.{leb, eqb}
 use Rattle.numerals.specs.Digits.{lead, rest, headIs, count, value}
 use Rattle.numerals.specs.Whole.{numberOf, thousandths, behindPoint, factorOf}
 use Rattle.numerals.specs.declared.whole.Numeral.the-variants.{Number, Malformed}
-use Rattle.numbers.proofs.Cases.{and-true, never}
+use Rattle.ground.proofs.Cases.{never}
 use Rattle.numerals.proofs.Runs.{drop-one, lead-digits, value-below, lead-rest-length}
 
 module _ (most : ℕ) (s : List ℕ) where
@@ -38,8 +38,8 @@ number-read most s n q = go (eqb (length (rest s)) 0 && count 1 most (lead s)) r
   where
     go : (t : Bool) → eqb (length (rest s)) 0 && count 1 most (lead s) ≡ t → cond t (Number (value 0 (lead s))) Malformed ≡ Number n → Read most s n
     go true e r =
-        let b = and-true (eqb (length (rest s)) 0) (count 1 most (lead s)) e in
-        let d = and-true (leb 1 (length (lead s))) (leb (length (lead s)) most) (b .1) in
+        let b = and-eq-true-iff (eqb (length (rest s)) 0) (count 1 most (lead s)) .0 e in
+        let d = and-eq-true-iff (leb 1 (length (lead s))) (leb (length (lead s)) most) .0 (b .1) in
         let all : length (lead s) ≡ length s = omega (arith, eqb-true (length (rest s)) 0 (b .0), lead-rest-length s) in
         let few : length (lead s) ≤ most = leb-true (length (lead s)) most (d .1) in
         let same : value 0 (lead s) ≡ n = cc in

@@ -2,20 +2,24 @@
 use Prim.Native.Nat.{ℕ, _+_, _≤_, _<_}
 use mathlib.Core.Path.{_≡_, refl, sym, ap, _∙_}
 use mathlib.Core.List.{List, [], _∷_}
-use mathlib.Core.Bool.{Bool, true, false, cond, not, _&&_, and-false}
+use mathlib.Core.Bool.{Bool, true, false, cond, not, _&&_, _||_, and-false, and-eq-true-iff}
+use mathlib.Core.Logic.{_⊎_, inl, inr}
 use native.Mathlib.Omega.{arith}
 use native.Mathlib.Nat.{add-zero}
 use native.Mathlib.Numerals.{add-one}
-use borrow.Author.Tests.{lt-ltb, le-ltb, ne-eqb, eqb-false, not-true}
+use borrow.Author.Tests.{lt-ltb, le-ltb, lt-leb, le-leb, ne-eqb, eqb-true, eqb-false, not-true}
 use lib.ListN.{length, getD, set, drop, drop-of-length-le}
 use lib.Seq.{drop-cons}
-use lib.Dec.{eqb, ltb}
-use Rattle.numbers.proofs.Cases.{never, and-true, ranged}
+use lib.Dec.{eqb, leb, ltb}
+use Rattle.text.specs.Control.{isCharacter}
+use Rattle.ground.specs.Ranges.{inRange}
+use Rattle.ground.proofs.Cases.{never, below, ranged}
 use Rattle.settings.specs.Mnemonics.{isErr}
 use Rattle.settings.specs.declared.model.Model.{Model}
 use Rattle.settings.specs.declared.mnemonic.Mnemonic.{Mnemonic}
 use Rattle.ports.specs.Line.{blank, withLine, grown, isEmpty}
-use Rattle.ports.specs.Hearing.{kindOf, answered, asked, again, repeats, settled, quiet, byKind, heard, isTyped, typing, typedOne, typedAll}
+use Rattle.ports.specs.Hearing.{kindOf, answered, asked, quiet, byKind, heard}
+use Rattle.ports.specs.Walk.{again, repeats, settled, isTyped, typing, typedOne, typedAll}
 use Rattle.ports.specs.declared.Port.{Port}
 use Rattle.ports.specs.declared.Selection.{Selection}
 use Rattle.ports.specs.declared.Selection.the-variants.{Nothing, Of as Chosen}
@@ -46,12 +50,24 @@ either false true x y h = refl
 either false false x y h = never (cc)
 
 neither : (s t : Bool) → not s && not t ≡ true → (s ≡ false) × (t ≡ false)
-neither s t h = let b = and-true (not s) (not t) h in (not-true s (b .0), not-true t (b .1))
+neither s t h = let b = and-eq-true-iff (not s) (not t) .0 h in (not-true s (b .0), not-true t (b .1))
+
+-- the characters begin behind the space, so that one range has both
+pub typed-range : (b : ℕ) → inRange 32 126 b ≡ isTyped b
+typed-range b = by (eqb b 32) refl
+  where
+    by : (t : Bool) → eqb b 32 ≡ t → inRange 32 126 b ≡ (t || inRange 33 126 b)
+    by true e = rw (eqb-true b 32 e)
+    by false e = ap (λ (t : Bool). t && leb b 126) (above (below 32 b))
+      where
+        above : (32 < b) ⊎ (b ≤ 32) → leb 32 b ≡ leb 33 b
+        above (inl l) = rw (le-leb 32 b (omega arith), le-leb 33 b l)
+        above (inr g) = rw (lt-leb 32 b (omega (arith, eqb-false b 32 e)), lt-leb 33 b (omega arith))
 
 -- a typed byte is none of those below the space
 module _ (b : ℕ) (e : isTyped b ≡ true) where
   range : (32 ≤ b) × (b ≤ 126)
-  range = ranged 32 126 b e
+  range = ranged 32 126 b (typed-range b ∙ e)
 
   other : (n : ℕ) → n < 32 → eqb b n ≡ false
   other n h = ne-eqb b n (λ q. omega (arith, range .0))
@@ -60,11 +76,9 @@ module _ (b : ℕ) (e : isTyped b ≡ true) where
   unfolding kindOf
   kind-typed = rw (other 13 (omega arith), other 10 (omega arith), other 3 (omega arith), other 5 (omega arith)) (by (eqb b 32) refl)
     where
-      by : (t : Bool) → eqb b 32 ≡ t → cond t Dropped (cond (ltb 32 b && ltb b 127) Character Spoiling) ≡ cond t Dropped Character
+      by : (t : Bool) → eqb b 32 ≡ t → cond t Dropped (cond (isCharacter b) Character Spoiling) ≡ cond t Dropped Character
       by true q = refl
-      by false q =
-          let n = eqb-false b 32 q in
-          rw (lt-ltb 32 b (omega (arith, range .0, n)), lt-ltb b 127 (omega (arith, range .1)))
+      by false q = rw (rw q at e)
 
 -- whatever the model, and straight after a CR too
 pub typed-heard : (model : Model) (p : Port) (b : ℕ) → isTyped b ≡ true → heard model p b ≡ quiet (typedOne p b)
@@ -88,7 +102,7 @@ answered-stays p (Chosen m) e = rw (not-true (isErr m) e)
 -- where the selection answers again, the port is as it was
 pub repeats-stays : (p : Port) → repeats p ≡ true → p ≡ asked p .port
 unfolding asked
-repeats-stays p e = let t = and-true (isEmpty p) (again (p .selection)) e in rw (t .0) (answered-stays p (p .selection) (t .1))
+repeats-stays p e = let t = and-eq-true-iff (isEmpty p) (again (p .selection)) .0 e in rw (t .0) (answered-stays p (p .selection) (t .1))
 
 -- ---- the run
 

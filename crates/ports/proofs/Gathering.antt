@@ -8,8 +8,9 @@ use native.Mathlib.Nat.{min-eq-left, min-eq-right, min-le-right, le-of-lt}
 use native.Mathlib.Omega.{arith}
 use lib.ListN.{length, take}
 use lib.Seq.{take-all}
-use Rattle.numbers.proofs.Cases.{below, cond-cases}
-use Rattle.ports.specs.Line.{held, heldCount}
+use Rattle.ground.proofs.Cases.{below, cond-cases}
+use Rattle.ports.specs.Line.{held}
+use Rattle.ports.specs.Walk.{heldCount}
 use Rattle.ports.specs.declared.Port.{Port}
 
 pub count-fits : (p : Port) → heldCount p ≤ 80

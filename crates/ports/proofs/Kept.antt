@@ -2,7 +2,7 @@
 use Prim.Native.Nat.{ℕ, zero, suc, _+_, _≤_, _<_}
 use mathlib.Core.Path.{_≡_, refl, sym, ap, subst}
 use mathlib.Core.List.{List, [], _∷_, _++_}
-use mathlib.Core.Bool.{Bool, true, false, cond, _&&_, _||_}
+use mathlib.Core.Bool.{Bool, true, false, cond, _&&_, _||_, and-eq-true-iff}
 use mathlib.Core.Logic.{_≢_}
 use native.Mathlib.Omega.{arith}
 use native.Mathlib.Numerals.{add-one}
@@ -12,8 +12,9 @@ use lib.Seq.{drop-cons, drop-set-lt, take-suc-set}
 use lib.Dec.{eqb, leb, ltb}
 use lib.IntN.{pos}
 use Rattle.numbers.specs.Numbers.{between}
-use Rattle.numbers.proofs.Cases.{never, and-true, cond-cases, ranged}
-use Rattle.settings.specs.Lists.{every}
+use Rattle.ground.proofs.Members.{every-snoc}
+use Rattle.ground.proofs.Cases.{never, cond-cases, ranged}
+use Rattle.ground.specs.Members.{every}
 use Rattle.settings.specs.Mnemonics.{isErr, hasReply, answers}
 use Rattle.settings.specs.Kinds.{whole, kinds}
 use Rattle.settings.specs.Limits.{fits}
@@ -37,8 +38,11 @@ use Rattle.lines.proofs.Kept.{writes-fitting}
 use Rattle.lines.proofs.Answered.{asks-answers, writes-answers}
 use Rattle.ports.specs.Line.{blank, withLine, emptied, spoilt, grown, held, isEmpty}
 use Rattle.ports.specs.Stream.{intervalOf, withStream, stopped, begun, ticked}
-use Rattle.ports.specs.Hearing.{kindOf, freshPort, withMark, withChoice, selected, concluded, lineEnd, worded, replied, answered, asked, quiet, byKind, heard, settled}
-use Rattle.ports.specs.Limits.{inRange, lineWithin, isInterval, streamWithin, selectionWithin, portWithin, Eighty}
+use Rattle.text.specs.Control.{isCharacter}
+use Rattle.ports.specs.Hearing.{isDropped, kindOf, freshPort, withMark, withChoice, selected, concluded, lineEnd, worded, replied, answered, asked, quiet, byKind, heard}
+use Rattle.ports.specs.Walk.{settled}
+use Rattle.ports.specs.Limits.{lineWithin, isInterval, streamWithin, selectionWithin, portWithin, Eighty}
+use Rattle.ground.specs.Ranges.{inRange}
 use Rattle.ports.specs.declared.Port.{Port}
 use Rattle.ports.specs.declared.Selection.{Selection}
 use Rattle.ports.specs.declared.Selection.the-variants.{Nothing, Of as Chosen}
@@ -59,14 +63,14 @@ heard-by P model p b q f =
 
 -- a byte that is no CR, ETX or ENQ: it is dropped, a character or a byte that spoils the line, and nothing is sent
 module _ (P : Heard → Type 0) (model : Model) (p : Port) (b : ℕ) (cr : b ≢ 13) (etx : b ≢ 3) (enq : b ≢ 5)
-    (kept : eqb b 10 || eqb b 32 ≡ true → P (quiet (withMark p false))) (settles : eqb b 10 || eqb b 32 ≡ true → P (quiet (settled p)))
-    (grows : eqb b 10 || eqb b 32 ≡ false → ltb 32 b && ltb b 127 ≡ true → P (quiet (grown (settled p) b)))
-    (spoils : eqb b 10 || eqb b 32 ≡ false → ltb 32 b && ltb b 127 ≡ false → P (quiet (spoilt (settled p)))) where
+    (kept : isDropped b ≡ true → P (quiet (withMark p false))) (settles : isDropped b ≡ true → P (quiet (settled p)))
+    (grows : isDropped b ≡ false → isCharacter b ≡ true → P (quiet (grown (settled p) b)))
+    (spoils : isDropped b ≡ false → isCharacter b ≡ false → P (quiet (spoilt (settled p)))) where
   inner-kind : P (byKind model (kindOf b) (settled p) b)
   unfolding byKind kindOf
-  inner-kind = rw (ne-eqb b 13 cr, ne-eqb b 3 etx, ne-eqb b 5 enq) (by (eqb b 10 || eqb b 32) refl (ltb 32 b && ltb b 127) refl)
+  inner-kind = rw (ne-eqb b 13 cr, ne-eqb b 3 etx, ne-eqb b 5 enq) (by (isDropped b) refl (isCharacter b) refl)
     where
-      by : (d : Bool) → eqb b 10 || eqb b 32 ≡ d → (c : Bool) → ltb 32 b && ltb b 127 ≡ c → P (byKind model (cond d Dropped (cond c Character Spoiling)) (settled p) b)
+      by : (d : Bool) → isDropped b ≡ d → (c : Bool) → isCharacter b ≡ c → P (byKind model (cond d Dropped (cond c Character Spoiling)) (settled p) b)
       by true e c f = settles e
       by false e true f = grows e f
       by false e false f = spoils e f
@@ -75,7 +79,7 @@ module _ (P : Heard → Type 0) (model : Model) (p : Port) (b : ℕ) (cr : b ≢
   unfolding heard
   inner-by =
       cond-cases P (p .ended && eqb b 10) (quiet (withMark p false)) (byKind model (kindOf b) (settled p) b)
-      (λ e. kept (rw (and-true (p .ended) (eqb b 10) e .1))) (λ _. inner-kind)
+      (λ e. kept (rw (and-eq-true-iff (p .ended) (eqb b 10) .0 e .1))) (λ _. inner-kind)
 
 asked-by : (P : Heard → Type 0) (p : Port) → P (worded p) → ((m : Mnemonic) → p .selection ≡ Chosen m → P (replied p m)) → P (asked p)
 unfolding asked
@@ -154,8 +158,8 @@ record Parts (model : Model) (p : Port) : Type 0 where
 parts : (model : Model) (p : Port) → portWithin model p ≡ true → Parts model p
 unfolding portWithin
 parts model p h =
-    let a = and-true (lineWithin p) _ h in
-    let b = and-true (streamWithin p) (selectionWithin model (p .selection)) (a .1) in
+    let a = and-eq-true-iff (lineWithin p) _ .0 h in
+    let b = and-eq-true-iff (streamWithin p) (selectionWithin model (p .selection)) .0 (a .1) in
     record { line = a .0; stream = b .0; selection = b .1 }
 
 together : (model : Model) (p : Port) → Parts model p → portWithin model p ≡ true
@@ -199,36 +203,26 @@ character-test : (t : Bool) → cond t Character Spoiling ≡ Character → t �
 character-test true e = refl
 character-test false e = never (cc)
 
--- a character is above the space and below 127
-character-range : (b : ℕ) → kindOf b ≡ Character → inRange 33 126 b ≡ true
+-- a byte of that kind is a character
+is-character : (b : ℕ) → kindOf b ≡ Character → isCharacter b ≡ true
 unfolding kindOf
-character-range b e =
+is-character b e =
     let e1 = other-kind (eqb b 13) Cr _ (λ z. never (cc)) e in
-    let e2 = other-kind (eqb b 10 || eqb b 32) Dropped _ (λ z. never (cc)) e1 in
+    let e2 = other-kind (isDropped b) Dropped _ (λ z. never (cc)) e1 in
     let e3 = other-kind (eqb b 3) Etx _ (λ z. never (cc)) e2 in
     let e4 = other-kind (eqb b 5) Enq _ (λ z. never (cc)) e3 in
-    let t = and-true (ltb 32 b) (ltb b 127) (character-test (ltb 32 b && ltb b 127) e4) in
-    let h : b < 127 = ltb-true b 127 (t .1) in
-    rw (t .0, le-leb b 126 (omega arith))
+    character-test (isCharacter b) e4
 
-every-snoc : (f : ℕ → Bool) (xs : List ℕ) (b : ℕ) → every f xs ≡ true → f b ≡ true → every f (xs ++ (b ∷ [])) ≡ true
-unfolding every
-every-snoc f [] b h e = rw e
-every-snoc f (x ∷ xs) b h e = let a = and-true (f x) (every f xs) h in rw (a .0) (every-snoc f xs b (a .1) e)
-
-every-tail : (f : ℕ → Bool) (x : ℕ) (xs : List ℕ) → every f (x ∷ xs) ≡ true → every f xs ≡ true
-unfolding every
-every-tail f x xs h = and-true (f x) (every f xs) h .1
-
-longer-within : (p : Port) (b : ℕ) → Long p → lineWithin p ≡ true → inRange 33 126 b ≡ true → p .bad ≡ false → p .len < 80 → lineWithin (longer p b) ≡ true
-unfolding lineWithin
+longer-within : (p : Port) (b : ℕ) → Long p → lineWithin p ≡ true → isCharacter b ≡ true → p .bad ≡ false → p .len < 80 → lineWithin (longer p b) ≡ true
+unfolding lineWithin every
 longer-within p b e w c g l =
-    let front = every (inRange 33 126) (take (p .len) (p .line)) in
+    let front = every (isCharacter) (take (p .len) (p .line)) in
     let back = every (inRange 0 0) (drop (p .len) (p .line)) in
-    let both = and-true front back (and-true (front && back) _ (and-true (leb (p .len) 80) _ w .1) .0) in
+    let both = and-eq-true-iff front back .0 (and-eq-true-iff (front && back) _ .0 (and-eq-true-iff (leb (p .len) 80) _ .0 w .1) .0) in
     let h : p .len < length (p .line) = omega arith in
-    let used = every-snoc (inRange 33 126) (take (p .len) (p .line)) b (both .0) c in
-    let unused = every-tail (inRange 0 0) (getD (p .line) (p .len) 0) (drop (suc (p .len)) (p .line)) (rw (drop-cons (p .line) (p .len) 0 h) at (both .1)) in
+    let used = every-snoc (isCharacter) (take (p .len) (p .line)) b (both .0) c in
+    let unused =
+    and-eq-true-iff (inRange 0 0 (getD (p .line) (p .len) 0)) (every (inRange 0 0) (drop (suc (p .len)) (p .line))) .0 (rw (drop-cons (p .line) (p .len) 0 h) at (both .1)) .1 in
     rw (add-one (p .len), le-leb (suc (p .len)) 80 l)
     (rw (take-suc-set (p .line) (p .len) b h, drop-set-lt (suc (p .len)) (p .line) (p .len) b (omega arith), used, unused, g))
 
@@ -244,7 +238,7 @@ mode-within p (suc (suc (suc n))) h = absurd (omega arith)
 com-mode : (model : Model) (r : Row) → Fitting (kinds model Com) r → number r ≤ 2
 com-mode model r f =
     let h : fits (whole 0 2) (r .first) ≡ true = row-places (whole 0 2 ∷ []) r (pairRow 0 0) f 0 (omega arith) in
-    ranged 0 2 (number r) (and-true (between (pos 0) (pos 0) (r .first .exponent)) (leb 0 (number r) && leb (number r) 2) h .1) .1
+    ranged 0 2 (number r) (and-eq-true-iff (between (pos 0) (pos 0) (r .first .exponent)) (leb 0 (number r) && leb (number r) 2) .0 h .1) .1
 
 begun-parts : (model : Model) (p : Port) (m : Mnemonic) (r : Row) → Fitting (kinds model m) r → Parts model p → Parts model (begun p m r)
 begun-parts model p (Of x) r f w = w
@@ -283,7 +277,7 @@ kind-parts model Etx p b c e w = with-choice (cleared w false) Nothing (p .error
 kind-parts model Enq p b c e w =
     asked-by (λ (h : Heard). Parts model (h .port)) p (with-choice (cleared w false) Nothing noError refl) (λ m s. replied-parts model p m s w)
 kind-parts model Character p b c e w =
-    grown-by (Parts model) p b w (cleared w true) (λ g l. with-line w _ _ _ (longer-within p b e (w .line) (character-range b c) g l))
+    grown-by (Parts model) p b w (cleared w true) (λ g l. with-line w _ _ _ (longer-within p b e (w .line) (is-character b c) g l))
 kind-parts model Spoiling p b c e w = cleared w true
 
 -- ---- the limits are kept
@@ -304,14 +298,14 @@ ticked-within model p h =
     let w = parts model p h in
     together model (ticked p .port)
     (ticked-by (Parts model) p w (λ e n l.
-    let i = and-true (isInterval (p .interval)) (ltb (p .ticks) (p .interval)) (rw e at (w .stream)) in
+    let i = and-eq-true-iff (isInterval (p .interval)) (ltb (p .ticks) (p .interval)) .0 (rw e at (w .stream)) in
     with-stream w (p .interval) n (rw (e, i .0, l))))
 
 -- ---- what a byte makes the box do
 
 cr-byte : (b : ℕ) → kindOf b ≡ Cr → b ≡ 13
 unfolding kindOf
-cr-byte b = by (eqb b 13) (eqb b 10 || eqb b 32) (eqb b 3) (eqb b 5) (ltb 32 b && ltb b 127) refl
+cr-byte b = by (eqb b 13) (isDropped b) (eqb b 3) (eqb b 5) (isCharacter b) refl
   where
     by : (cr dropped etx enq character : Bool) → eqb b 13 ≡ cr
         → cond cr Cr (cond dropped Dropped (cond etx Etx (cond enq Enq (cond character Character Spoiling)))) ≡ Cr → b ≡ 13

@@ -1,8 +1,8 @@
 -- One byte of the host (01, "Bytes from the host").
 use Prim.Native.Nat.{ℕ}
-use mathlib.Core.List.{List, [], _∷_}
-use mathlib.Core.Bool.{Bool, true, false, cond, not, _&&_, _||_}
-use lib.Dec.{eqb, leb, ltb}
+use mathlib.Core.Bool.{Bool, true, false, cond, _&&_, _||_}
+use lib.Dec.{eqb}
+use Rattle.text.specs.Control.{etx, enq, lf, cr, space, isCharacter}
 use Rattle.settings.specs.Models.{powerOnMode}
 use Rattle.settings.specs.Mnemonics.{isErr}
 use Rattle.settings.specs.declared.model.Model.{Model}
@@ -25,14 +25,18 @@ use Rattle.ports.specs.declared.Heard.{Heard}
 use Rattle.ports.specs.declared.hearing.ByteKind.{ByteKind}
 use Rattle.ports.specs.declared.hearing.ByteKind.the-variants.{Cr, Dropped, Etx, Enq, Character, Spoiling}
 
+-- "Any other LF, and every space, is dropped."
+abbrev pub isDropped : ℕ → Bool
+isDropped b = eqb b lf || eqb b space
+
 -- CR, LF or space, ETX, ENQ; "a byte below 32 other than CR, LF, ETX and ENQ, or one of 127 and above, makes it bad"
 unfoldable pub kindOf : ℕ → ByteKind
 kindOf b =
-    cond (eqb b 13) Cr
-    (cond (eqb b 10 || eqb b 32) Dropped
-    (cond (eqb b 3) Etx
-    (cond (eqb b 5) Enq
-    (cond (ltb 32 b && ltb b 127) Character Spoiling))))
+    cond (eqb b cr) Cr
+    (cond (isDropped b) Dropped
+    (cond (eqb b etx) Etx
+    (cond (eqb b enq) Enq
+    (cond (isCharacter b) Character Spoiling))))
 
 -- "no line, selection, error or reading, mode 1 streaming"; an LF "after a fresh box or a power cycle, is another LF"
 abbrev pub freshPort : Model → Port
@@ -120,15 +124,6 @@ answered p (Chosen m) = replied p m
 unfoldable pub asked : Port → Heard
 asked p = cond (isEmpty p) (answered p (p .selection)) (worded p)
 
--- whether a selection answers "as often as asked" with nothing changed: any but ERR, whose word is gone once it is sent
-abbrev pub again : Selection → Bool
-again Nothing = false
-again (Chosen m) = not (isErr m)
-
--- so on "an empty line"
-abbrev pub repeats : Port → Bool
-repeats p = isEmpty p && again (p .selection)
-
 -- nothing is sent
 abbrev pub quiet : Port → Heard
 quiet p = record { port = p; event = Silent }
@@ -146,26 +141,4 @@ byKind model Spoiling p b = quiet (spoilt p)
 unfoldable pub heard : Model → Port → ℕ → Heard
 heard model p b =
     let q = withMark p false in
-    cond (p .ended && eqb b 10) (quiet q) (byKind model (kindOf b) (stopped q) b)
-
--- "Every host byte stops the stream", and no byte but a CR is one that an LF can stand "straight after"
-abbrev pub settled : Port → Port
-settled p = stopped (withMark p false)
-
--- a character or a space: no "byte below 32", nor "one of 127 and above"
-abbrev pub isTyped : ℕ → Bool
-isTyped b = leb 32 b && leb b 126
-
--- the characters and spaces before the first byte that is none, as the CR that "ends a line"
-unfoldable pub typing : List ℕ → List ℕ
-typing [] = []
-typing (b ∷ bs) = cond (isTyped b) (b ∷ typing bs) []
-
--- one of them: "every space, is dropped", and "A line holds up to 80 characters, spaces not counted."
-unfoldable pub typedOne : Port → ℕ → Port
-typedOne p b = cond (eqb b 32) (settled p) (grown (settled p) b)
-
--- one after the other: "An 81st .. makes it bad"
-unfoldable pub typedAll : Port → List ℕ → Port
-typedAll p [] = p
-typedAll p (b ∷ bs) = typedAll (typedOne p b) bs
+    cond (p .ended && eqb b lf) (quiet q) (byKind model (kindOf b) (stopped q) b)

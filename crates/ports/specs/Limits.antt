@@ -4,7 +4,9 @@ use mathlib.Core.Path.{_≡_}
 use mathlib.Core.Bool.{Bool, true, not, _&&_, _||_}
 use lib.ListN.{length, take, drop}
 use lib.Dec.{eqb, leb, ltb}
-use Rattle.settings.specs.Lists.{every}
+use Rattle.ground.specs.Members.{every}
+use Rattle.ground.specs.Ranges.{inRange}
+use Rattle.text.specs.Control.{isCharacter}
 use Rattle.settings.specs.Mnemonics.{answers}
 use Rattle.settings.specs.declared.model.Model.{Model}
 use Rattle.ports.specs.Stream.{intervalOf}
@@ -12,15 +14,11 @@ use Rattle.ports.specs.declared.Port.{Port}
 use Rattle.ports.specs.declared.Selection.{Selection}
 use Rattle.ports.specs.declared.Selection.the-variants.{Nothing, Of as Chosen}
 
--- a byte from low to high
-abbrev pub inRange : ℕ → ℕ → ℕ → Bool
-inRange low high b = leb low b && leb b high
-
 -- "the line at most 80 with unused places zero, empty when bad"; a used place holds a character
 unfoldable pub lineWithin : Port → Bool
 lineWithin p =
     leb (p .len) 80
-    && (every (inRange 33 126) (take (p .len) (p .line)) && every (inRange 0 0) (drop (p .len) (p .line)) && (not (p .bad) || eqb (p .len) 0))
+    && (every isCharacter (take (p .len) (p .line)) && every (inRange 0 0) (drop (p .len) (p .line)) && (not (p .bad) || eqb (p .len) 0))
 
 -- the interval of a mode
 abbrev pub isInterval : ℕ → Bool

@@ -1,5 +1,5 @@
 -- The line of a host (01, "Bytes from the host").
-use Prim.Native.Nat.{ℕ, _+_, min}
+use Prim.Native.Nat.{ℕ, _+_}
 use mathlib.Core.List.{List, []}
 use mathlib.Core.Bool.{Bool, true, false, cond, not, _&&_}
 use lib.ListN.{set, take, replicate}
@@ -42,7 +42,3 @@ held p = cond (p .bad) [] (take (p .len) (p .line))
 -- "an empty line"
 abbrev pub isEmpty : Port → Bool
 isEmpty p = not (p .bad) && eqb (p .len) 0
-
--- how many characters there are to be judged
-abbrev pub heldCount : Port → ℕ
-heldCount p = cond (p .bad) 0 (min (p .len) 80)

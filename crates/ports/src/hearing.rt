@@ -1,6 +1,7 @@
 // One byte of the host: what it does to the port, and what it makes the box do.
 ghost use mathlib.Core.Path.{_≡_};
-ghost use Rattle.ports.specs.Hearing.{kindOf, freshPort, withMark, withChoice, selected, accepted, refused, concluded, lineEnd, dropped, replied, asked, repeats, quiet, settled, byKind, heard};
+ghost use Rattle.ports.specs.Hearing.{kindOf, freshPort, withMark, withChoice, selected, accepted, refused, concluded, lineEnd, dropped, replied, asked, quiet, byKind, heard};
+ghost use Rattle.ports.specs.Walk.{repeats, settled};
 ghost use Rattle.ports.specs.declared.Event.the-variants.{Reply};
 use crate::Event;
 use crate::Heard;
@@ -13,18 +14,13 @@ use lines::word::Word;
 use settings::mnemonic::Mnemonic;
 use settings::mnemonic::Query;
 use settings::model::Model;
-
-const CR: u8 = 13;
-
-const LF: u8 = 10;
-
-const ETX: u8 = 3;
-
-pub const ENQ: u8 = 5;
-
-pub(crate) const SPACE: u8 = 32;
-
-const DEL: u8 = 127;
+use text::control::CR;
+use text::control::ENQ;
+use text::control::ETX;
+use text::control::LEAST_CHARACTER;
+use text::control::LF;
+use text::control::MOST_CHARACTER;
+use text::control::SPACE;
 
 enum ByteKind {
     Cr,
@@ -51,7 +47,7 @@ fn kind_of(b: u8) -> ByteKind
     if b == ENQ {
         return ByteKind::Enq;
     }
-    if (SPACE < b) & (b < DEL) {
+    if (LEAST_CHARACTER <= b) & (b <= MOST_CHARACTER) {
         return ByteKind::Character;
     }
     ByteKind::Spoiling

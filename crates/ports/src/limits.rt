@@ -2,17 +2,15 @@
 ghost use mathlib.Core.Path.{_≡_};
 ghost use Prim.Native.Nat.{_-_, _≤_};
 ghost use lib.ListN.{drop, take};
-ghost use Rattle.settings.specs.Lists.{every};
-ghost use Rattle.ports.specs.Limits.{inRange, lineWithin, streamWithin, selectionWithin, portWithin};
+ghost use Rattle.ground.specs.Members.{every};
+ghost use Rattle.ground.specs.Ranges.{inRange};
+ghost use Rattle.ports.specs.Limits.{lineWithin, streamWithin, selectionWithin, portWithin};
 use crate::Port;
 use crate::Selection;
 use crate::stream::interval_of;
 use settings::model::Model;
-
-// The least and the greatest character.
-const LEAST: u8 = 33;
-
-pub(crate) const MOST: u8 = 126;
+use text::control::LEAST_CHARACTER;
+use text::control::MOST_CHARACTER;
 
 // Whether the places from a to b hold bytes from low to high; no early end, so that the compiler tests many at once.
 fn all_within(line: [u8; 80], a: usize, b: usize, low: u8, high: u8) -> bool
@@ -38,7 +36,7 @@ impl Port {
         if Port::PLACES < n {
             return false;
         }
-        let used = all_within(line, 0, n, LEAST, MOST);
+        let used = all_within(line, 0, n, LEAST_CHARACTER, MOST_CHARACTER);
         let unused = all_within(line, n, Port::PLACES, 0, 0);
         (used & unused) & (!self.bad | (n == 0))
     }

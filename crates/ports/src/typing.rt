@@ -5,10 +5,10 @@ ghost use Prim.Native.Nat.{_+_};
 ghost use lib.ListN.{length, drop};
 ghost use lib.Dec.{ltb};
 ghost use Rattle.ports.specs.Line.{withLine};
-ghost use Rattle.ports.specs.Hearing.{settled, isTyped, typing, typedAll};
+ghost use Rattle.ports.specs.Walk.{settled, isTyped, typing, typedAll};
 use crate::Port;
-use crate::hearing::SPACE;
-use crate::limits::MOST;
+use text::control::MOST_CHARACTER;
+use text::control::SPACE;
 
 pub struct Typed {
     pub port: Port,
@@ -20,7 +20,7 @@ pub struct Typed {
 pub fn is_typed(b: u8) -> bool
     ensures { λ r. ⌜ r ≡ isTyped b ⌝ }
 {
-    (SPACE <= b) & (b <= MOST)
+    (SPACE <= b) & (b <= MOST_CHARACTER)
 }
 
 impl Port {

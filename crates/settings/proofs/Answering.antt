@@ -9,10 +9,10 @@ use borrow.Author.Tests.{lt-ltb, le-ltb}
 use lib.ListN.{length, replicate, drop-of-length-le, List·getD-eq-default}
 use lib.Dec.{ltb}
 use Rattle.text.specs.Text.{ascii}
-use Rattle.text.proofs.Tables.{listed, everywhere}
-use Rattle.numbers.proofs.Cases.{below}
+use Rattle.ground.proofs.Tables.{entries, everywhere}
+use Rattle.ground.proofs.Cases.{below}
 use Rattle.settings.specs.Models.{channels}
-use Rattle.settings.specs.Lists.{every, Each}
+use Rattle.ground.specs.Members.{every, Each}
 use Rattle.settings.specs.Mnemonics.{storedNames, known, name, same, found, recognised, channelOf, isKnown, hasReply, answers}
 use Rattle.settings.specs.declared.model.Model.{Model}
 use Rattle.settings.specs.declared.model.Model.the-variants.{Tpg361, Tpg362}
@@ -22,13 +22,13 @@ use Rattle.settings.specs.declared.mnemonic.Query.{Query}
 use Rattle.settings.specs.declared.mnemonic.Query.the-variants.{Sps, Pr, Prx, Tid, Ayt, Err}
 use Rattle.settings.specs.declared.mnemonic.Mnemonic.{Mnemonic}
 use Rattle.settings.specs.declared.mnemonic.Mnemonic.the-variants.{Setting as Of, Cf, Query as Asked}
-use Rattle.settings.proofs.Lists.{each-map, every-each}
+use Rattle.ground.proofs.Members.{each-map, every-each}
 use Rattle.settings.proofs.Names.{not-three}
 
 -- ---- settings by their numbers
 
 -- a family of n, whose names past the last have another length
-family : (model : Model) (names : ℕ → List ℕ) (n : ℕ) → listed (λ (k : ℕ). isKnown (recognised model (names k))) n 0 ≡ replicate n true
+family : (model : Model) (names : ℕ → List ℕ) (n : ℕ) → entries (λ (k : ℕ). isKnown (recognised model (names k))) n 0 ≡ replicate n true
     → ((k : ℕ) → n ≤ k → length (names k) ≡ 3 → ⊥) → (k : ℕ) → ltb k n ≡ isKnown (recognised model (names k))
 family model names n t past k =
     ⊎-elim (λ (l : k < n). rw (lt-ltb k n l) (sym (everywhere (λ (j : ℕ). isKnown (recognised model (names j))) n t k l)))
@@ -49,7 +49,7 @@ plain-known model = (refl, (refl, (refl, (refl, tt))))
 
 -- ---- what is there on the model
 
-channelled : (model : Model) (f : ℕ → Mnemonic) → listed (λ (k : ℕ). isKnown (recognised model (name (f k)))) 2 0 ≡ replicate 2 true
+channelled : (model : Model) (f : ℕ → Mnemonic) → entries (λ (k : ℕ). isKnown (recognised model (name (f k)))) 2 0 ≡ replicate 2 true
     → (k : ℕ) → ltb k (channels model) ≡ isKnown (recognised model (name (f k))) && (ltb k (channels model) && true)
 channelled model f t k =
     ⊎-elim (λ (l : k < channels model). rw (lt-ltb k (channels model) l, everywhere (λ (j : ℕ). isKnown (recognised model (name (f j)))) 2 t k (two model l)))

@@ -7,9 +7,9 @@ use mathlib.Core.List.{List, [], _∷_, map}
 use lib.IntN.{negsuc}
 use lib.ListN.{drop, replicate}
 use Rattle.text.specs.Text.{ascii}
-use Rattle.text.proofs.Tables.{listed as table}
+use Rattle.ground.proofs.Tables.{entries}
 use Rattle.numbers.specs.declared.threshold.Threshold.{Threshold}
-use Rattle.settings.specs.Lists.{every}
+use Rattle.ground.specs.Members.{every}
 use Rattle.settings.specs.Models.{modelOf, channels, names, powerOnMode, startsOn, follows, agrees, defaults}
 use Rattle.settings.specs.Mnemonics.{sheet, sheetAt, settingName, known, same, found, recognised, channelOf, isErr}
 use Rattle.settings.specs.Kinds.{storedKinds}
@@ -43,22 +43,22 @@ model-modes = refl
 
 -- the assignments 0 to 3
 module _ (model : Model) where
-  pub on-at-first : table (startsOn model) 4 0 ≡ false ∷ true ∷ false ∷ false ∷ []
+  pub on-at-first : entries (startsOn model) 4 0 ≡ false ∷ true ∷ false ∷ false ∷ []
   on-at-first = refl
 
-  pub with-channel-one : table (λ (a : ℕ). follows model a 0) 4 0 ≡ false ∷ false ∷ true ∷ false ∷ []
+  pub with-channel-one : entries (λ (a : ℕ). follows model a 0) 4 0 ≡ false ∷ false ∷ true ∷ false ∷ []
   with-channel-one = refl
 
-  pub found-off : table (λ (a : ℕ). agrees model a false) 4 0 ≡ true ∷ false ∷ true ∷ true ∷ []
+  pub found-off : entries (λ (a : ℕ). agrees model a false) 4 0 ≡ true ∷ false ∷ true ∷ true ∷ []
   found-off = refl
 
-  pub found-on : table (λ (a : ℕ). agrees model a true) 4 0 ≡ false ∷ true ∷ true ∷ true ∷ []
+  pub found-on : entries (λ (a : ℕ). agrees model a true) 4 0 ≡ false ∷ true ∷ true ∷ true ∷ []
   found-on = refl
 
 -- ---- mnemonics
 
 -- the lines of the sheet, and one past the last
-pub sheet-names : (model : Model) → table (λ (i : ℕ). settingName (sheetAt model i)) 18 0 ≡ map ascii ("UNI" ∷ "FIL" ∷ "CAL" ∷ "DCD" ∷ "SP1" ∷ "SP2" ∷ "SP3" ∷ "SP4" ∷ "ERA" ∷ "EVA" ∷ "FMT" ∷ "LNG" ∷ "NAD" ∷ "PRE" ∷ "PRO" ∷ "PUC" ∷ "DCS" ∷ "UNI" ∷ [])
+pub sheet-names : (model : Model) → entries (λ (i : ℕ). settingName (sheetAt model i)) 18 0 ≡ map ascii ("UNI" ∷ "FIL" ∷ "CAL" ∷ "DCD" ∷ "SP1" ∷ "SP2" ∷ "SP3" ∷ "SP4" ∷ "ERA" ∷ "EVA" ∷ "FMT" ∷ "LNG" ∷ "NAD" ∷ "PRE" ∷ "PRO" ∷ "PUC" ∷ "DCS" ∷ "UNI" ∷ [])
 sheet-names model = refl
 
 pub words : (model : Model) → map (λ (w : String). recognised model (ascii w)) ("PR1" ∷ "PR2" ∷ "ERR" ∷ "SAV" ∷ "SAW" ∷ []) ≡ Known (Asked (Pr 0)) ∷ Known (Asked (Pr 1)) ∷ Known (Asked Err) ∷ Known Sav ∷ Unknown ∷ []
@@ -79,7 +79,7 @@ pub default-numbers : (model : Model) → map (λ (x : Setting). number (row (de
 default-numbers model = refl
 
 -- lower and upper of each switching function
-pub default-thresholds : (model : Model) → table (λ (k : ℕ). drop 1 (listed (row (defaults model) (Sp k)))) 4 0 ≡ replicate 4 (record { mantissa = 10000; exponent = negsuc 8 } ∷ record { mantissa = 90000; exponent = negsuc 6 } ∷ [])
+pub default-thresholds : (model : Model) → entries (λ (k : ℕ). drop 1 (listed (row (defaults model) (Sp k)))) 4 0 ≡ replicate 4 (record { mantissa = 10000; exponent = negsuc 8 } ∷ record { mantissa = 90000; exponent = negsuc 6 } ∷ [])
 default-thresholds model = refl
 
 pub pair-numbers : (a b : ℕ) → map (λ (c : Threshold). c .mantissa) (listed (pairRow a b)) ≡ a ∷ b ∷ 0 ∷ []

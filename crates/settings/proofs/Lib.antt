@@ -1,6 +1,4 @@
-pub mod Lists
 pub mod Tabled
-pub mod Ranges
 pub mod Names
 pub mod Answering
 pub mod Places

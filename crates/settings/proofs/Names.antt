@@ -2,18 +2,17 @@
 use Prim.Native.Nat.{ℕ, zero, suc, _+_, _*_, _-_, _≤_, _<_}
 use mathlib.Core.Path.{_≡_, refl, sym, ap, _∙_}
 use mathlib.Core.List.{List, [], _∷_, _++_, map}
-use mathlib.Core.Bool.{Bool, true, false, _&&_, and-true as and-end, and-false}
+use mathlib.Core.Bool.{Bool, true, false, _&&_, and-true, and-false, and-eq-true-iff}
 use native.Mathlib.Omega.{arith}
 use native.Mathlib.Numerals.{add-one}
 use lib.ListN.{length, getD, drop, drop-of-length-le, List·getD-append, List·getD-map}
-use lib.Seq.{drop-cons}
+use lib.Seq.{drop-cons, getD-append-add}
 use lib.Dec.{eqb}
 use borrow.Author.Tests.{eqb-true}
 use Rattle.text.specs.Text.{ascii}
-use Rattle.text.proofs.Tables.{tabled}
-use Rattle.numbers.proofs.Cases.{and-true}
+use Rattle.ground.proofs.Tables.{tabled}
 use Rattle.settings.specs.Mnemonics.{sheet, sheetAt, others, known, knownAt, name, same, found, recognised}
-use Rattle.settings.specs.Lists.{every}
+use Rattle.ground.specs.Members.{every}
 use Rattle.settings.specs.declared.model.Model.{Model}
 use Rattle.settings.specs.declared.mnemonic.Setting.the-variants.{Uni}
 use Rattle.settings.specs.declared.mnemonic.Mnemonic.{Mnemonic}
@@ -22,20 +21,15 @@ use Rattle.settings.specs.declared.mnemonic.Named.the-variants.{Known, U
 
 -- ---- places in the list of all that are known
 
-behind-front : {A : Type 0} (xs ys : List A) (i : ℕ) (d : A) → length xs ≤ i → getD (xs ++ ys) i d ≡ getD ys (i - length xs) d
-behind-front [] ys i d h = let q : i ≡ i - 0 = omega arith in ap (λ (k : ℕ). getD ys k d) q
-behind-front (x ∷ xs) ys zero d h = absurd (omega arith)
-behind-front (x ∷ xs) ys (suc i) d h =
-    let q : i - length xs ≡ suc i - suc (length xs) = omega arith in
-    behind-front xs ys i d (omega arith) ∙ ap (λ (k : ℕ). getD ys k d) q
-
 pub known-sheet : (model : Model) (i : ℕ) → i < 17 → Of (sheetAt model i) ≡ knownAt model i
 unfolding known
 known-sheet model i h = sym (List·getD-append (map Of (sheet model)) others (Of Uni) i h ∙ List·getD-map Of (sheet model) i Uni)
 
 pub known-others : (model : Model) (i : ℕ) → 17 ≤ i → getD others (i - 17) (Of Uni) ≡ knownAt model i
 unfolding known
-known-others model i h = sym (behind-front (map Of (sheet model)) others i (Of Uni) h)
+known-others model i h =
+    let q : 17 + (i - 17) ≡ i = omega (arith, h) in
+    sym (getD-append-add (map Of (sheet model)) others (i - 17) (Of Uni)) ∙ ap (λ (k : ℕ). getD (map Of (sheet model) ++ others) k (Of Uni)) q
 
 -- ---- three letters each
 
@@ -53,7 +47,7 @@ pub spelt : (model : Model) (i : ℕ) → i < 28 → (a b c : ℕ)
     → eqb (getD letters (i * 3) 0) a && (eqb (getD letters (i * 3 + 1) 0) b && eqb (getD letters (i * 3 + 2) 0) c) ≡ same (name (knownAt model i)) (a ∷ b ∷ c ∷ [])
 unfolding same
 spelt model i h a b c =
-    ap (λ (t : Bool). eqb (getD letters (i * 3) 0) a && (eqb (getD letters (i * 3 + 1) 0) b && t)) (sym (and-end (eqb (getD letters (i * 3 + 2) 0) c)))
+    ap (λ (t : Bool). eqb (getD letters (i * 3) 0) a && (eqb (getD letters (i * 3 + 1) 0) b && t)) (sym (and-true (eqb (getD letters (i * 3 + 2) 0) c)))
     ∙ ap (λ (n : List ℕ). same n (a ∷ b ∷ c ∷ [])) (spelling model i h)
 
 -- ---- the search
@@ -92,7 +86,7 @@ nothing-found : (ms : List Mnemonic) (w : List ℕ) → every (λ m. eqb (length
 unfolding found every
 nothing-found [] w e h = refl
 nothing-found (m ∷ ms) w e h =
-    let t = and-true (eqb (length (name m)) 3) (every (λ m. eqb (length (name m)) 3) ms) e in
+    let t = and-eq-true-iff (eqb (length (name m)) 3) (every (λ m. eqb (length (name m)) 3) ms) .0 e in
     rw (unlike (name m) w (λ q. h (sym q ∙ eqb-true (length (name m)) 3 (t .0)))) (nothing-found ms w (t .1) h)
 
 pub not-three : (model : Model) (w : List ℕ) → (length w ≡ 3 → ⊥) → recognised model w ≡ Unknown

@@ -2,7 +2,7 @@
 use Prim.Native.Nat.{ℕ, zero, suc, _<_}
 use mathlib.Core.Path.{_≡_, ap}
 use mathlib.Core.List.{List}
-use mathlib.Core.Bool.{Bool, true, _&&_}
+use mathlib.Core.Bool.{Bool, true, _&&_, and-eq-true-iff}
 use native.Mathlib.Omega.{arith}
 use borrow.Author.Tests.{eqb-true}
 use lib.ListN.{length, getD}
@@ -10,7 +10,8 @@ use lib.Dec.{ltb, eqb}
 use lib.IntN.{ℤ, pos, negsuc}
 use Rattle.numbers.specs.Numbers.{between}
 use Rattle.numbers.specs.declared.threshold.Threshold.{Threshold}
-use Rattle.numbers.proofs.Cases.{and-true, ranged, never}
+use Rattle.ground.proofs.Ranges.{upto-each}
+use Rattle.ground.proofs.Cases.{ranged, never}
 use Rattle.settings.specs.Rows.{plain, listed}
 use Rattle.settings.specs.Limits.{inside, sameCell, placeWithin, rowFits}
 use Rattle.settings.specs.declared.kinds.Limits.{Limits}
@@ -29,7 +30,7 @@ exponent-is (negsuc a) (negsuc b) h = let l = ranged b b a h in ap negsuc (omega
 
 pub same-cell : (c d : Threshold) → sameCell c d ≡ true → c ≡ d
 same-cell c d h =
-    let b = and-true (eqb (c .mantissa) (d .mantissa)) (between (d .exponent) (d .exponent) (c .exponent)) h in
+    let b = and-eq-true-iff (eqb (c .mantissa) (d .mantissa)) (between (d .exponent) (d .exponent) (c .exponent)) .0 h in
     let m = eqb-true (c .mantissa) (d .mantissa) (b .0) in
     let e = exponent-is (d .exponent) (c .exponent) (b .1) in
     λ i. record { mantissa = m i; exponent = e i }
@@ -37,7 +38,7 @@ same-cell c d h =
 -- a cell that fits a whole number or a factor is a plain number
 pub fits-plain : (l : Limits) (c : Threshold) → inside l c ≡ true → c ≡ plain (c .mantissa)
 fits-plain l c h =
-    let e = exponent-is (pos 0) (c .exponent) (and-true (between (pos 0) (pos 0) (c .exponent)) _ h .0) in
+    let e = exponent-is (pos 0) (c .exponent) (and-eq-true-iff (between (pos 0) (pos 0) (c .exponent)) _ .0 h .0) in
     λ i. record { mantissa = c .mantissa; exponent = e i }
 
 -- ---- places
@@ -56,15 +57,9 @@ rows-same r q e =
 abbrev pub placed : List Kind → Row → Row → ℕ → Bool
 placed ks r d i = placeWithin (ltb i (length ks)) (getD ks i Level) (cell r i) (cell d i)
 
-all-three : (p : ℕ → Bool) → p 0 && (p 1 && p 2) ≡ true → (i : ℕ) → i < 3 → p i ≡ true
-all-three p h zero l = and-true (p 0) (p 1 && p 2) h .0
-all-three p h (suc zero) l = and-true (p 1) (p 2) (and-true (p 0) (p 1 && p 2) h .1) .0
-all-three p h (suc (suc zero)) l = and-true (p 1) (p 2) (and-true (p 0) (p 1 && p 2) h .1) .1
-all-three p h (suc (suc (suc i))) l = absurd (omega arith)
-
 module _ (ks : List Kind) (r d : Row) where
   pub row-places : rowFits ks r d ≡ true → (i : ℕ) → i < 3 → placed ks r d i ≡ true
-  row-places = all-three (placed ks r d)
+  row-places h i l = upto-each 2 (placed ks r d) h i (omega arith)
 
   pub places-row : ((i : ℕ) → i < 3 → placed ks r d i ≡ true) → rowFits ks r d ≡ true
   places-row h = rw (h 0 (omega arith), h 1 (omega arith)) (h 2 (omega arith))

@@ -2,21 +2,21 @@
 use Prim.Native.Nat.{ℕ, zero, suc, _+_, _≤_, _<_}
 use mathlib.Core.Path.{_≡_, refl, sym, ap, _∙_, subst}
 use mathlib.Core.List.{List, [], _∷_, _++_, map}
-use mathlib.Core.Bool.{Bool, true, false, not, _&&_}
+use mathlib.Core.Bool.{Bool, true, false, not, _&&_, and-eq-true-iff}
 use mathlib.Core.Logic.{_≢_, _⊎_, inl, inr, ⊎-elim, _↔_}
 use native.Mathlib.Omega.{arith}
 use borrow.Author.Tests.{ltb-true, eqb-true, eqb-false, not-true}
 use lib.ListN.{length, getD, take, drop, length-take}
 use lib.Seq.{getD-take}
 use lib.Dec.{ltb, eqb}
-use Rattle.text.proofs.Tables.{listed as tableOf, tabled}
+use Rattle.ground.proofs.Tables.{alike}
 use Rattle.numbers.specs.declared.threshold.Threshold.{Threshold}
-use Rattle.numbers.proofs.Cases.{true-or-false, and-true}
+use Rattle.ground.proofs.Cases.{true-or-false}
 use Rattle.settings.specs.Models.{defaults}
 use Rattle.settings.specs.Mnemonics.{sheet, sheetAt, others, known}
 use Rattle.settings.specs.Kinds.{whole, factor, perChannel, kinds, storedKinds, storedTable}
 use Rattle.settings.specs.Rows.{plain, row, listed, count, cells}
-use Rattle.settings.specs.Lists.{every, Each}
+use Rattle.ground.specs.Members.{every, Each}
 use Rattle.settings.specs.Limits.{placeWithin, rowWithin, within, Shaped}
 use Rattle.settings.specs.declared.model.Model.{Model}
 use Rattle.settings.specs.declared.model.Model.the-variants.{Tpg361, Tpg362}
@@ -28,7 +28,7 @@ use Rattle.settings.specs.declared.kinds.Kind.{Kind}
 use Rattle.settings.specs.declared.kinds.Kind.the-variants.{Threshold as Level}
 use Rattle.settings.specs.declared.rows.Row.{Row}
 use Rattle.settings.specs.declared.Settings.{Settings}
-use Rattle.settings.proofs.Lists.{each-map, each-both, each-all, each-take, each-drop, each-at, every-each, each-every}
+use Rattle.ground.proofs.Members.{each-map, each-both, each-all, each-take, each-drop, each-at, every-each, each-every}
 use Rattle.settings.proofs.Storing.{Holding, rows-decide}
 use Rattle.settings.proofs.Storing.Holding.{uni, fil, cal, dcd, sp, kept}
 use Rattle.settings.proofs.Places.{cell, same-cell, rows-same, row-places}
@@ -65,17 +65,13 @@ line Dcd = 3
 line (Sp k) = 4 + k
 line (Stored k) = 8 + k
 
--- two tables of n entries that are the same
-same-table : {A : Type 0} (f g : ℕ → A) (n : ℕ) → tableOf f n 0 ≡ tableOf g n 0 → (k : ℕ) → k < n → f k ≡ g k
-same-table f g n e k h = tabled f n (tableOf g n 0) e k (g k) h ∙ sym (tabled g n (tableOf g n 0) refl k (g k) h)
-
 on-line : (model : Model) {x : Setting} → Holding x → sheetAt model (line x) ≡ x
 on-line model uni = refl
 on-line model fil = refl
 on-line model cal = refl
 on-line model dcd = refl
-on-line model (sp k h) = same-table (λ i. sheetAt model (4 + i)) Sp 4 refl k h
-on-line model (kept k h) = same-table (λ i. sheetAt model (8 + i)) Stored 9 refl k h
+on-line model (sp k h) = alike (λ i. sheetAt model (4 + i)) Sp 4 refl k h
+on-line model (kept k h) = alike (λ i. sheetAt model (8 + i)) Stored 9 refl k h
 
 -- what holds over the sheet holds of every setting
 pub on-sheet : (P : Setting → Type 0) (model : Model) → Each P (sheet model) → (x : Setting) → Holding x → P x
@@ -102,7 +98,7 @@ all-apart : (xs : List Setting) → differing xs ≡ true → Distinct xs
 unfolding differing
 all-apart [] e = tt
 all-apart (x ∷ xs) e =
-    let b = and-true (every (unlike x) xs) (differing xs) e in
+    let b = and-eq-true-iff (every (unlike x) xs) (differing xs) .0 e in
     (each-map (λ y. unlike x y ≡ true) (λ y. x ≢ y) (unlike-apart x) xs (every-each (unlike x) xs (b .0)), all-apart xs (b .1))
 
 pub sheet-distinct : (model : Model) → Distinct (sheet model)

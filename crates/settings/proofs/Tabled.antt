@@ -2,14 +2,15 @@
 use Prim.Native.Nat.{ℕ, zero, suc, _+_, _-_, _≤_, _<_}
 use mathlib.Core.Path.{_≡_, refl, sym, ap, _∙_}
 use mathlib.Core.List.{List, [], _∷_, _++_}
-use mathlib.Core.Bool.{Bool, _&&_, and-true, and-assoc}
+use mathlib.Core.Bool.{Bool, _&&_}
 use native.Mathlib.Omega.{arith}
 use lib.ListN.{getD, take, drop, drop-of-length-le}
 use lib.Seq.{drop-cons}
-use Rattle.text.proofs.Tables.{tabled}
+use Rattle.ground.proofs.Tables.{tabled}
 use Rattle.settings.specs.Mnemonics.{sheet}
 use Rattle.settings.specs.Kinds.{whole, storedTable, storedKinds}
-use Rattle.settings.specs.Lists.{every}
+use Rattle.ground.specs.Members.{every}
+use Rattle.ground.proofs.Members.{every-append}
 use Rattle.settings.specs.Limits.{rowWithin, within}
 use Rattle.settings.specs.declared.model.Model.{Model}
 use Rattle.settings.specs.declared.mnemonic.Setting.the-variants.{Uni, Stored}
@@ -40,16 +41,6 @@ stored-entry model (suc j) h n =
 pub stored-past : (model : Model) (k : ℕ) → 9 ≤ k → storedKinds model k ≡ []
 unfolding storedKinds
 stored-past model k h = ap (take 1) (drop-of-length-le (storedTable model) h)
-
--- the test over four at once
-pub every-four : {A : Type 0} (p : A → Bool) (a b c d : A) → p a && (p b && (p c && p d)) ≡ every p (a ∷ b ∷ c ∷ d ∷ [])
-unfolding every
-every-four p a b c d = ap (λ (t : Bool). p a && (p b && (p c && t))) (sym (and-true (p d)))
-
-every-append : {A : Type 0} (p : A → Bool) (xs ys : List A) → every p xs && every p ys ≡ every p (xs ++ ys)
-unfolding every
-every-append p [] ys = refl
-every-append p (x ∷ xs) ys = and-assoc (p x) (every p xs) (every p ys) ∙ ap (λ (t : Bool). p x && t) (every-append p xs ys)
 
 -- the sheet in its three parts
 pub sheet-parts : (model : Model) (s : Settings)

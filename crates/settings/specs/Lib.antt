@@ -1,4 +1,3 @@
-pub mod Lists
 pub mod Models
 pub mod Mnemonics
 pub mod Kinds

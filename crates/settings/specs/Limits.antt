@@ -8,7 +8,7 @@ use lib.Dec.{leb, ltb, eqb}
 use lib.IntN.{pos}
 use Rattle.numbers.specs.Numbers.{between, withinStops}
 use Rattle.numbers.specs.declared.threshold.Threshold.{Threshold}
-use Rattle.settings.specs.Lists.{every}
+use Rattle.ground.specs.Members.{every}
 use Rattle.settings.specs.Models.{defaults}
 use Rattle.settings.specs.Mnemonics.{sheet}
 use Rattle.settings.specs.Kinds.{kinds, packed}

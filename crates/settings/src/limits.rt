@@ -1,7 +1,7 @@
 // The limits of settings on a model.
 ghost use mathlib.Core.Path.{_≡_};
 ghost use lib.ListN.{getD, take, drop};
-ghost use Rattle.settings.specs.Lists.{every};
+ghost use Rattle.ground.specs.Members.{every};
 ghost use Rattle.settings.specs.Mnemonics.{sheet};
 ghost use Rattle.settings.specs.Kinds.{switchingKinds};
 ghost use Rattle.settings.specs.Rows.{plain, pairRow, cellsOf};

@@ -2,14 +2,13 @@
 use Prim.Native.Nat.{ℕ, _≤_, _<_}
 use mathlib.Core.Path.{_≡_, refl}
 use mathlib.Core.List.{List, [], _∷_, _++_, map}
-use mathlib.Core.Bool.{Bool, true, false}
+use mathlib.Core.Bool.{Bool, true, false, and-eq-true-iff}
 use native.Mathlib.Omega.{arith}
 use borrow.Author.Tests.{eqb-true, lt-leb}
 use lib.Dec.{eqb}
 use lib.ListN.{getD}
 use lib.Seq.{getD-set-same}
 use Rattle.text.specs.Text.{ascii}
-use Rattle.numbers.proofs.Cases.{and-true}
 use Rattle.gauges.specs.Readings.{noReading, withinLimits}
 use Rattle.gauges.specs.Shown.{shownOf}
 use Rattle.gauges.specs.declared.reading.Reading.{Reading}
@@ -23,8 +22,8 @@ use Rattle.settings.specs.declared.mnemonic.Query.the-variants.{Sps, Prx, Ayt}
 use Rattle.settings.specs.declared.mnemonic.Mnemonic.the-variants.{Setting as Of, Query as Asked, Sav}
 use Rattle.settings.specs.declared.rows.Row.{Row}
 use Rattle.settings.specs.declared.Settings.{Settings}
-use Rattle.lines.specs.Words.{digit}
-use Rattle.lines.specs.Replies.{lineEnd}
+use Rattle.text.specs.Digits.{binary}
+use Rattle.text.specs.Control.{crLf}
 use Rattle.lines.specs.declared.word.Word.{Word}
 use Rattle.lines.specs.declared.verdict.Verdict.the-variants.{Writes}
 use Rattle.shared.specs.Events.{functionAt, isOn, started, following, taken, written, heard}
@@ -74,13 +73,13 @@ module _ (saved : Settings) (error : Word) where
   identity model serial = replyText (started model serial saved) error (Asked Ayt)
 
   pub identities : identity Tpg362 44990000 ∷ identity Tpg361 7 ∷ []
-      ≡ map (λ (t : List ℕ). t ++ lineEnd) (ascii "TPG362,PTG28290,44990000,010100,010100" ∷ ascii "TPG361,PTG28040,00000007,010100,010100" ∷ [])
+      ≡ map (λ (t : List ℕ). t ++ crLf) (ascii "TPG362,PTG28290,44990000,010100,010100" ∷ ascii "TPG361,PTG28040,00000007,010100,010100" ∷ [])
   unfolding replyText
   identities = refl
 
 module _ (s : Shared) where
   pub switches-reply : (error : Word) (a b c d : Bool) → s .switches ≡ a ∷ b ∷ c ∷ d ∷ []
-      → replyText s error (Asked Sps) ≡ digit a ∷ 44 ∷ digit b ∷ 44 ∷ digit c ∷ 44 ∷ digit d ∷ lineEnd
+      → replyText s error (Asked Sps) ≡ binary a ∷ 44 ∷ binary b ∷ 44 ∷ binary c ∷ 44 ∷ binary d ∷ crLf
   unfolding replyText
   switches-reply error a b c d e = rw e
 
@@ -91,11 +90,11 @@ module _ (s : Shared) where
   abbrev shown : ℕ → List ℕ
   shown = shownAt (s .settings .unit) (s .readings)
 
-  pub stream-of-two : s .model ≡ Tpg362 → streamText s ≡ (shown 0 ++ 44 ∷ shown 1) ++ lineEnd
+  pub stream-of-two : s .model ≡ Tpg362 → streamText s ≡ (shown 0 ++ 44 ∷ shown 1) ++ crLf
   unfolding streamText perChannel
   stream-of-two e = rw e
 
-  pub stream-of-one : s .model ≡ Tpg361 → streamText s ≡ shown 0 ++ lineEnd
+  pub stream-of-one : s .model ≡ Tpg361 → streamText s ≡ shown 0 ++ crLf
   unfolding streamText perChannel
   stream-of-one e = rw e
 
@@ -108,7 +107,7 @@ module _ (s : Shared) where
   pub second-absent : s .model ≡ Tpg361 → sharedWithin s ≡ true → getD (s .readings) 1 noReading .kind ≡ 6
   second-absent e w =
       let r = getD (s .readings) 1 noReading in
-      let h : eqb (r .kind) 6 ≡ true = and-true (withinLimits r) (eqb (r .kind) 6) (rw e at (parts s w .readings 1 (omega arith))) .1 in
+      let h : eqb (r .kind) 6 ≡ true = and-eq-true-iff (withinLimits r) (eqb (r .kind) 6) .0 (rw e at (parts s w .readings 1 (omega arith))) .1 in
       eqb-true (r .kind) 6 h
 
   pub long-serial : 99999999 < s .serial → sharedWithin s ≡ false

@@ -2,15 +2,16 @@
 use Prim.Native.Nat.{ℕ, zero, suc, _+_, _≤_, _<_}
 use mathlib.Core.Path.{_≡_, refl, sym, subst}
 use mathlib.Core.List.{List, [], _∷_}
-use mathlib.Core.Bool.{Bool, Bool·beq, true, false, _&&_}
+use mathlib.Core.Bool.{Bool, Bool·beq, true, false, _&&_, and-eq-true-iff}
 use mathlib.Core.Logic.{_≢_, ⊎-elim}
 use native.Mathlib.Omega.{arith}
 use borrow.Author.Tests.{eqb-true, eqb-false, lt-ltb, le-leb}
 use lib.Dec.{eqb, leb, ltb}
 use lib.ListN.{length, getD, set, length-set}
 use lib.Seq.{getD-set-same, getD-set-other}
-use Rattle.text.proofs.Tables.{tabled}
-use Rattle.numbers.proofs.Cases.{true-or-false, and-true, or-right, cond-cases}
+use Rattle.ground.proofs.Tables.{tabled}
+use Rattle.ground.proofs.Ranges.{upto, upto-each, each-upto}
+use Rattle.ground.proofs.Cases.{true-or-false, or-right, cond-cases}
 use Rattle.gauges.specs.Readings.{noReading, withinLimits}
 use Rattle.gauges.specs.Shown.{shownOf, switched}
 use Rattle.gauges.specs.declared.reading.Reading.{Reading}
@@ -28,7 +29,7 @@ use Rattle.settings.specs.declared.mnemonic.Mnemonic.the-variants.{Setting as O
 use Rattle.settings.specs.declared.rows.Row.{Row}
 use Rattle.settings.specs.declared.Switching.{Switching}
 use Rattle.settings.specs.declared.Settings.{Settings}
-use Rattle.settings.proofs.Lists.{each-at}
+use Rattle.ground.proofs.Members.{each-at}
 use Rattle.settings.proofs.Keeping.{defaults-within, defaults-shaped}
 use Rattle.lines.specs.Judging.{judged, effect}
 use Rattle.lines.specs.declared.verdict.Fault.{Fault}
@@ -40,21 +41,6 @@ use Rattle.shared.specs.Limits.{readingWithin, switchWithin, serialWithi
 use Rattle.shared.specs.declared.Shared.{Shared}
 
 -- ---- the limits, part by part
-
--- a test at each place up to n
-abbrev upto : ℕ → (ℕ → Bool) → Bool
-upto zero f = f 0
-upto (suc n) f = f 0 && upto n (λ i. f (suc i))
-
-upto-each : (n : ℕ) (f : ℕ → Bool) → upto n f ≡ true → (i : ℕ) → i ≤ n → f i ≡ true
-upto-each zero f e zero h = e
-upto-each zero f e (suc i) h = absurd (omega arith)
-upto-each (suc n) f e zero h = and-true (f 0) (upto n (λ i. f (suc i))) e .0
-upto-each (suc n) f e (suc i) h = upto-each n (λ i. f (suc i)) (and-true (f 0) (upto n (λ i. f (suc i))) e .1) i (omega arith)
-
-each-upto : (n : ℕ) (f : ℕ → Bool) → ((i : ℕ) → i ≤ n → f i ≡ true) → upto n f ≡ true
-each-upto zero f h = h 0 (omega arith)
-each-upto (suc n) f h = rw (h 0 (omega arith)) (each-upto n (λ i. f (suc i)) (λ i l. h (suc i) (omega arith)))
 
 module _ (s : Shared) where
   -- the reading of a channel
@@ -75,10 +61,10 @@ module _ (s : Shared) where
   pub parts : sharedWithin s ≡ true → Parts
   unfolding sharedWithin
   parts w =
-      let a = and-true (serialWithin (s .serial)) _ w in
-      let b = and-true (within (s .model) (s .settings) && within (s .model) (s .saved)) _ (a .1) in
-      let c = and-true (within (s .model) (s .settings)) (within (s .model) (s .saved)) (b .0) in
-      let d = and-true (upto 1 reading) (upto 3 status) (b .1) in
+      let a = and-eq-true-iff (serialWithin (s .serial)) _ .0 w in
+      let b = and-eq-true-iff (within (s .model) (s .settings) && within (s .model) (s .saved)) _ .0 (a .1) in
+      let c = and-eq-true-iff (within (s .model) (s .settings)) (within (s .model) (s .saved)) .0 (b .0) in
+      let d = and-eq-true-iff (upto 1 reading) (upto 3 status) .0 (b .1) in
       record { serial = a .0; settings = c .0; saved = c .1; readings = upto-each 1 reading (d .0); switches = upto-each 3 status (d .1) }
 
   together : Parts → sharedWithin s ≡ true

@@ -12,12 +12,12 @@ use lib.ListN.{length, length-append}
 use Rattle.text.specs.Digits.{dig, bare, wholeText}
 use Rattle.text.proofs.Decimals.{dig-length}
 use Rattle.numbers.specs.declared.threshold.Threshold.{Threshold}
-use Rattle.numbers.proofs.Cases.{cond-cases}
+use Rattle.ground.proofs.Cases.{cond-cases}
 use Rattle.numerals.specs.Writing.{scientific, valueText}
 use Rattle.gauges.specs.Shown.{shownOf, shownText}
 use Rattle.gauges.specs.Kinds.{kindNames, kindName}
 use Rattle.gauges.specs.declared.shown.Shown.{Shown}
-use Rattle.settings.specs.Lists.{Each, every}
+use Rattle.ground.specs.Members.{Each, every}
 use Rattle.settings.specs.Kinds.{kinds}
 use Rattle.settings.specs.Rows.{cells}
 use Rattle.settings.specs.declared.model.Model.{Model}
@@ -31,11 +31,12 @@ use Rattle.settings.specs.declared.mnemonic.Mnemonic.the-variants.{Setting as O
 use Rattle.settings.specs.declared.kinds.Kind.{Kind}
 use Rattle.settings.specs.declared.kinds.Kind.the-variants.{Whole, Factor, Threshold as Level}
 use Rattle.settings.specs.declared.Settings.{Settings}
-use Rattle.settings.proofs.Lists.{each-at, every-each}
+use Rattle.ground.proofs.Members.{each-at, every-each}
 use Rattle.settings.proofs.Sheets.{few}
 use Rattle.lines.specs.Splitting.{joined}
 use Rattle.lines.specs.Fields.{write}
-use Rattle.lines.specs.Replies.{texts, settingText, lineEnd}
+use Rattle.lines.specs.Replies.{texts, settingText}
+use Rattle.text.specs.Control.{crLf}
 use Rattle.lines.specs.declared.word.Word.{Word}
 use Rattle.shared.specs.Replies.{readingAt, shownAt, kindAt, perChannel, serialText, readingsText, queryText, replyText, streamText}
 use Rattle.shared.specs.declared.Shared.{Shared}
@@ -112,8 +113,8 @@ serial-length : (model : Model) (serial : ℕ) → length (serialText model seri
 serial-length Tpg361 serial = refl
 serial-length Tpg362 serial = refl
 
-ended : (t : List ℕ) → length t ≤ 62 → length (t ++ lineEnd) ≤ 64
-ended t h = omega (arith, length-append t lineEnd)
+ended : (t : List ℕ) → length t ≤ 62 → length (t ++ crLf) ≤ 64
+ended t h = omega (arith, length-append t crLf)
 
 module _ (s : Shared) where
   shown-one : (k : ℕ) → length (shownAt (s .settings .unit) (s .readings) k) ≤ 22

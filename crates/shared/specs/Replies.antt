@@ -5,7 +5,7 @@ use mathlib.Core.List.{List, [], _∷_, _++_, map}
 use mathlib.Core.Bool.{Bool, false}
 use lib.ListN.{getD, take}
 use Rattle.text.specs.Text.{ascii}
-use Rattle.text.specs.Digits.{paddedText}
+use Rattle.text.specs.Digits.{paddedText, binary}
 use Rattle.gauges.specs.Readings.{noReading}
 use Rattle.gauges.specs.Shown.{shownOf, shownText}
 use Rattle.gauges.specs.Kinds.{kindName}
@@ -17,8 +17,9 @@ use Rattle.settings.specs.declared.mnemonic.Query.the-variants.{Sps, Pr, Prx, T
 use Rattle.settings.specs.declared.mnemonic.Mnemonic.{Mnemonic}
 use Rattle.settings.specs.declared.mnemonic.Mnemonic.the-variants.{Setting as Of, Cf, Query as Asked, Com, Sav}
 use Rattle.lines.specs.Splitting.{joined}
-use Rattle.lines.specs.Words.{digit, wordText}
-use Rattle.lines.specs.Replies.{settingText, factorsText, lineEnd}
+use Rattle.lines.specs.Words.{wordText}
+use Rattle.lines.specs.Replies.{settingText, factorsText}
+use Rattle.text.specs.Control.{crLf}
 use Rattle.lines.specs.declared.word.Word.{Word}
 use Rattle.shared.specs.Events.{eachFour}
 use Rattle.shared.specs.declared.Shared.{Shared}
@@ -41,7 +42,7 @@ perChannel model text = joined (map text (take (channels model) (0 ∷ 1 ∷ [])
 
 -- "SPS sends four digits with commas."
 abbrev pub switchesText : List Bool → List ℕ
-switchesText on = joined (map (λ (b : Bool). digit b ∷ []) (eachFour (λ i. getD on i false)))
+switchesText on = joined (map (λ (b : Bool). binary b ∷ []) (eachFour (λ i. getD on i false)))
 
 -- "sends TPG362,PTG28290,44990000,010100,010100"; "The serial has eight digits."
 abbrev pub serialText : Model → ℕ → List ℕ
@@ -62,12 +63,12 @@ queryText s error Err = wordText error
 
 -- the reply of each mnemonic, "then CR LF"; COM and SAV have none
 unfoldable pub replyText : Shared → Word → Mnemonic → List ℕ
-replyText s error (Of x) = settingText (s .model) (s .settings) x ++ lineEnd
-replyText s error (Cf k) = factorsText (s .model) (s .settings) ++ lineEnd
-replyText s error (Asked q) = queryText s error q ++ lineEnd
+replyText s error (Of x) = settingText (s .model) (s .settings) x ++ crLf
+replyText s error (Cf k) = factorsText (s .model) (s .settings) ++ crLf
+replyText s error (Asked q) = queryText s error q ++ crLf
 replyText s error Com = []
 replyText s error Sav = []
 
 -- a line of the stream, "then CR LF"
 unfoldable pub streamText : Shared → List ℕ
-streamText s = readingsText s ++ lineEnd
+streamText s = readingsText s ++ crLf

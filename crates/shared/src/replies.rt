@@ -2,7 +2,7 @@
 ghost use mathlib.Core.Path.{_≡_};
 ghost use Rattle.text.specs.Page.{page, puts};
 ghost use mathlib.Core.List.{_++_};
-ghost use Rattle.lines.specs.Replies.{lineEnd};
+ghost use Rattle.text.specs.Control.{crLf};
 ghost use Rattle.shared.specs.Replies.{readingAt, kindAt, shownAt, perChannel, switchesText, serialText, queryText, replyText, streamText};
 use crate::Shared;
 use gauges::kinds::write_kind;
@@ -12,12 +12,12 @@ use lines::replies::end_line;
 use lines::replies::factors_reply;
 use lines::replies::setting_reply;
 use lines::word::Word;
-use lines::word::digit_of;
 use lines::word::write_word;
 use settings::mnemonic::Mnemonic;
 use settings::mnemonic::Query;
 use settings::model::Model;
 use text::append;
+use text::digits::binary;
 use text::digits::padded;
 use text::put;
 
@@ -39,10 +39,10 @@ fn reading_at(readings: [Reading; 2], k: u8) -> Reading
 fn write_switches(out: &mut [u8], at: usize, on: [bool; 4]) -> usize
     ensures { λ r. ⌜ page (now (out .exit)) r ≡ puts (page (now (out .entry)) at) (switchesText on) ⌝ }
 {
-    let a = digit_of(on[0]);
-    let b = digit_of(on[1]);
-    let c = digit_of(on[2]);
-    let d = digit_of(on[3]);
+    let a = binary(on[0]);
+    let b = binary(on[1]);
+    let c = binary(on[2]);
+    let d = binary(on[3]);
     append(out, at, &[a, b',', b, b',', c, b',', d])
 }
 
@@ -125,7 +125,7 @@ impl Shared {
 
     // Its reply, with the end of the line.
     fn query_reply(self, out: &mut [u8], at: usize, q: Query, error: Word) -> usize
-        ensures { λ r. ⌜ page (now (out .exit)) r ≡ puts (page (now (out .entry)) at) (queryText self error q ++ lineEnd) ⌝ }
+        ensures { λ r. ⌜ page (now (out .exit)) r ≡ puts (page (now (out .entry)) at) (queryText self error q ++ crLf) ⌝ }
     {
         let a = self.write_query(out, at, q, error);
         end_line(out, a)

@@ -11,7 +11,7 @@ use lib.Dec.{eqb}
 use lib.ListN.{length, getD, drop, length-drop, drop-of-length-le}
 use lib.Seq.{drop-cons}
 use Rattle.text.specs.Digits.{dig, bare, wholeText}
-use Rattle.text.proofs.Tables.{alike}
+use Rattle.ground.proofs.Tables.{alike}
 
 pub dig-length : (k n : ℕ) → length (dig k n) ≡ k
 dig-length zero n = refl

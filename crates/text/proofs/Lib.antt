@@ -1,5 +1,5 @@
 pub mod Pages
 pub mod Decimals
-pub mod Tables
 pub mod Marks
 pub mod Instances
+pub mod HexDigits

@@ -2,9 +2,13 @@
 use Prim.Native.Nat.{ℕ, zero, suc, _+_, _/_, _%_, _^_, min}
 use Prim.Native.Char.{code}
 use mathlib.Core.List.{List, [], _∷_, _++_}
-use mathlib.Core.Bool.{cond, _&&_}
+use mathlib.Core.Bool.{Bool, cond, _&&_}
 use lib.ListN.{length}
 use lib.Dec.{leb, eqb}
+
+-- a digit that is 0 or 1
+abbrev pub binary : Bool → ℕ
+binary on = cond on (code "1") (code "0")
 
 -- the last k digits of n, the highest first
 abbrev pub dig : ℕ → ℕ → List ℕ

@@ -3,7 +3,7 @@ ghost use mathlib.Core.Path.{_≡_};
 ghost use Prim.Native.Nat.{_≤_, _<_, _+_, _/_, _%_, _^_};
 ghost use lib.ListN.{drop};
 ghost use Rattle.text.specs.Page.{page, puts};
-ghost use Rattle.text.specs.Digits.{dig, bare, wholeText, paddedText, factorText};
+ghost use Rattle.text.specs.Digits.{binary, dig, bare, wholeText, paddedText, factorText};
 use crate::append;
 use crate::put;
 
@@ -19,6 +19,13 @@ const POWERS: [u32; 10] = [
     100000000,
     1000000000,
 ];
+
+// A digit that is 0 or 1.
+pub fn binary(on: bool) -> u8
+    ensures { λ r. ⌜ r ≡ binary on ⌝ }
+{
+    if on { b'1' } else { b'0' }
+}
 
 // The digit of n with k digits behind it; a number has ten at most.
 pub fn digit_at(n: u32, k: usize) -> u8

@@ -4,7 +4,9 @@ ghost use Prim.Native.Nat.{_+_, _≤_};
 ghost use lib.ListN.{length};
 ghost use Rattle.text.specs.Page.{page, put, puts};
 
+pub mod control;
 pub mod digits;
+pub mod hex;
 pub mod spans;
 
 // One byte more; past the end nothing changes.

@@ -2,11 +2,10 @@
 use Prim.Native.Nat.{ℕ, _-_, _≤_}
 use mathlib.Core.Path.{_≡_, refl}
 use mathlib.Core.List.{List, [], _∷_, append-nil}
-use mathlib.Core.Bool.{Bool, true, false, cond, and-true as and-end}
+use mathlib.Core.Bool.{Bool, true, false, cond, and-true, and-eq-true-iff}
 use borrow.Author.Tests.{leb-true, le-leb}
 use lib.ListN.{length}
 use lib.Dec.{leb}
-use Rattle.numbers.proofs.Cases.{and-true}
 use Rattle.gauges.specs.Readings.{withinLimits}
 use Rattle.gauges.specs.declared.reading.Reading.{Reading}
 use Rattle.tpg.specs.Answers.{answer, handed, leastOutput}
@@ -19,12 +18,12 @@ use Rattle.tpg.specs.declared.answers.Outcome.{Outcome}
 -- room there is where a call is admitted
 pub roomy : (s : State) (least room : ℕ) → admits s least room ≡ true → least ≤ room
 unfolding admits
-roomy s least room e = leb-true least room (and-true (stateWithin s) (leb least room) e .1)
+roomy s least room e = leb-true least room (and-eq-true-iff (stateWithin s) (leb least room) .0 e .1)
 
 -- where no output is asked for, the state alone decides
 pub without-output : (s : State) → admits s 0 0 ≡ stateWithin s
 unfolding admits
-without-output s = and-end (stateWithin s)
+without-output s = and-true (stateWithin s)
 
 module _ (s : State) (least : ℕ) (o : Outcome) (bytes out : List ℕ) where
   pub admitted : admits s least (length out) ≡ true → (o ≡ roomed s least (length out) o) × (over bytes out ≡ over (roomedBytes s least (length out) bytes) out)

@@ -2,11 +2,11 @@
 use Prim.Native.Nat.{ℕ, zero, suc, _-_, _*_}
 use mathlib.Core.Path.{_≡_, refl, sym, _∙_, subst}
 use mathlib.Core.List.{List, [], _∷_}
-use mathlib.Core.Bool.{true}
+use mathlib.Core.Bool.{true, and-eq-true-iff}
 use native.Mathlib.Omega.{arith}
 use Rattle.gauges.specs.Readings.{withinLimits}
 use Rattle.gauges.specs.declared.reading.Reading.{Reading}
-use Rattle.numbers.proofs.Cases.{and-true, cond-cases, ranged}
+use Rattle.ground.proofs.Cases.{cond-cases, ranged}
 use Rattle.settings.specs.Models.{modelOf, channels, defaults}
 use Rattle.settings.specs.declared.model.Model.{Model}
 use Rattle.settings.specs.declared.model.Model.the-variants.{Tpg361}
@@ -33,7 +33,7 @@ use Rattle.tpg.specs.declared.answers.Outcome.{Outcome}
 
 parts : (s : State) → stateWithin s ≡ true → (sharedWithin (s .shared) ≡ true) × (portWithin (s .shared .model) (s .port) ≡ true)
 unfolding stateWithin
-parts s e = and-true (sharedWithin (s .shared)) (portWithin (s .shared .model) (s .port)) e
+parts s e = and-eq-true-iff (sharedWithin (s .shared)) (portWithin (s .shared .model) (s .port)) .0 e
 
 together : (s : State) → sharedWithin (s .shared) ≡ true → portWithin (s .shared .model) (s .port) ≡ true → stateWithin s ≡ true
 unfolding stateWithin

@@ -8,7 +8,11 @@ use lib.ListN.{length, take, drop, length-append, length-drop, take-append-drop}
 use lib.Seq.{sets-eq, length-take-le, take-append-seam, take-at, drop-append-add, drop-drop}
 use Rattle.text.specs.Page.{Page, page, puts}
 use Rattle.text.proofs.Pages.{puts-room}
-use Rattle.tpg.specs.Steps.{over, laidAt}
+use Rattle.tpg.specs.Steps.{over}
+
+-- bytes laid over an output from a place on
+unfoldable pub laidAt : ℕ → List ℕ → List ℕ → List ℕ
+laidAt at bytes out = take at out ++ bytes ++ drop (at + length bytes) out
 
 module _ (at : ℕ) (xs out : List ℕ) (inside : at ≤ length out) where
   front-length : length (take at out ++ xs) ≡ at + length xs

@@ -9,9 +9,10 @@ use borrow.Author.Tests.{le-leb, lt-leb}
 use lib.ListN.{length, getD, take, drop, length-append, length-drop, drop-of-length-le}
 use lib.Seq.{take-suc, drop-cons}
 use mathlib.Core.Bool.{true}
-use Rattle.numbers.proofs.Cases.{cond-cases}
+use Rattle.ground.proofs.Cases.{cond-cases}
 use Rattle.text.specs.Page.{page, puts}
-use Rattle.ports.specs.Hearing.{quiet, isTyped, typing, typedOne, typedAll}
+use Rattle.ports.specs.Hearing.{quiet}
+use Rattle.ports.specs.Walk.{isTyped, typing, typedOne, typedAll}
 use Rattle.ports.specs.declared.Event.{Event}
 use Rattle.ports.specs.declared.Event.the-variants.{Silent}
 use Rattle.ports.specs.declared.Heard.{Heard}
@@ -20,10 +21,10 @@ use Rattle.ports.specs.declared.typing.Typed.{Typed}
 use Rattle.ports.proofs.Characters.{typing-more, typed-heard}
 use Rattle.shared.specs.declared.Shared.{Shared}
 use Rattle.tpg.specs.Answers.{done, leastOutput}
-use Rattle.tpg.specs.Steps.{eventText, acted, hearing, next, sent, after, said, taken, over, laidAt}
+use Rattle.tpg.specs.Steps.{eventText, acted, hearing, next, sent, after, said, taken, over}
+use Rattle.tpg.proofs.Laying.{laidAt, over-more, over-length, laid-nothing, copied}
 use Rattle.tpg.specs.Calls.{hostText, hosted}
 use Rattle.tpg.specs.declared.State.{State}
-use Rattle.tpg.proofs.Laying.{over-more, over-length, laid-nothing, copied}
 use Rattle.tpg.proofs.Sending.{event-length, sent-length}
 
 pub after-append : (xs ys : List ℕ) (s : State) → after s (xs ++ ys) ≡ after (after s xs) ys

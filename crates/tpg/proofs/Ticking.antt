@@ -13,10 +13,10 @@ use Rattle.ports.specs.declared.Ticked.{Ticked}
 use Rattle.shared.specs.Replies.{streamText}
 use Rattle.shared.proofs.Lengths.{stream-length}
 use Rattle.tpg.specs.Answers.{done, leastOutput}
-use Rattle.tpg.specs.Steps.{over, laidAt}
+use Rattle.tpg.specs.Steps.{over}
+use Rattle.tpg.proofs.Laying.{laidAt, over-more, over-length, laid-nothing, copied}
 use Rattle.tpg.specs.Calls.{dueText, tickText, counted, tickCall, tickBytes, afterTicks, ticksText, allCounted, ticksCall, ticksBytes}
 use Rattle.tpg.specs.declared.State.{State}
-use Rattle.tpg.proofs.Laying.{over-more, over-length, laid-nothing, copied}
 use Rattle.tpg.proofs.Sending.{tick-length}
 
 pub after-ticks-append : (m n : ℕ) (s : State) → afterTicks s (m + n) ≡ afterTicks (afterTicks s m) n

@@ -4,7 +4,7 @@ use mathlib.Core.List.{List, [], _∷_, _++_}
 use mathlib.Core.Bool.{cond}
 use lib.ListN.{length, take, drop}
 use lib.Dec.{leb}
-use Rattle.lines.specs.Replies.{lineEnd}
+use Rattle.text.specs.Control.{ack, nak, crLf}
 use Rattle.lines.specs.declared.verdict.Verdict.{Verdict}
 use Rattle.lines.specs.declared.verdict.Verdict.the-variants.{Asks, Writes, Refused}
 use Rattle.ports.specs.Hearing.{heard as portHeard}
@@ -19,9 +19,9 @@ use Rattle.tpg.specs.declared.State.{State}
 
 -- "An accepted line sends ACK CR LF", "A refused one sends NAK CR LF"
 abbrev pub lineText : Verdict → List ℕ
-lineText (Asks m) = 6 ∷ lineEnd
-lineText (Writes m r) = 6 ∷ lineEnd
-lineText (Refused x) = 21 ∷ lineEnd
+lineText (Asks m) = ack ∷ crLf
+lineText (Writes m r) = ack ∷ crLf
+lineText (Refused x) = nak ∷ crLf
 
 -- what is sent at an event
 unfoldable pub eventText : Shared → Event → List ℕ
@@ -65,7 +65,3 @@ taken s (b ∷ bs) free = cond (leb leastOutput free) (suc (taken (next s b) bs 
 -- the output at exit: "only the bytes it counts" are written, from its beginning on
 unfoldable pub over : List ℕ → List ℕ → List ℕ
 over bytes out = bytes ++ drop (length bytes) out
-
--- bytes laid over an output from a place on
-unfoldable pub laidAt : ℕ → List ℕ → List ℕ → List ℕ
-laidAt at bytes out = take at out ++ bytes ++ drop (at + length bytes) out

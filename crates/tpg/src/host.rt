@@ -9,17 +9,13 @@ use crate::answers::Outcome;
 use crate::answers::finished;
 use lines::verdict::Verdict;
 use ports::Event;
-use ports::hearing::ENQ;
 use ports::typing::is_typed;
 use text::append;
-
-const ACK: u8 = 6;
-
-const NAK: u8 = 21;
-
-const CR: u8 = 13;
-
-const LF: u8 = 10;
+use text::control::ACK;
+use text::control::CR;
+use text::control::ENQ;
+use text::control::LF;
+use text::control::NAK;
 
 // What is sent where a line has ended.
 fn line_text(out: &mut [u8], at: usize, v: Verdict) -> usize

@@ -5,7 +5,7 @@ use native.Mathlib.Omega.{arith}
 use borrow.Author.Needs.{needs}
 use lib.ListN.{length}
 use lib.Seq.{length-take-le}
-use Rattle.bench.specs.Lines.{mostKept}
+use Rattle.bench.specs.Walk.{mostKept}
 use Rattle.bench.proofs.Blocks.{blockSize}
 use Rattle.bench.proofs.Writing.{left-inside, written-few}
 use Rattle.bench.proofs.main.Statement.{statement}

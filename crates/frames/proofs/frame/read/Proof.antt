@@ -1,4 +1,5 @@
 -- The pairs read so far are the first bytes; the rest of the line is read from here.
+use mathlib.Core.Bool.{and-eq-true-iff}
 use Prim.Native.Nat.{_-_, _/_}
 use mathlib.Core.Path.{_≡_, sym, _∙_}
 use native.Mathlib.Omega.{arith}
@@ -7,8 +8,8 @@ use borrow.Author.Tests.{ltb-true}
 use denote.Ref.{now}
 use lib.ListN.{length}
 use lib.Dec.{ltb}
-use Rattle.numbers.proofs.Cases.{and-true}
-use Rattle.frames.proofs.Reading.{Read, start, step, spoilt, ended, not-read, too-long, odd-not-hex}
+use Rattle.frames.proofs.Reading.{Read, start, step, spoilt, ended, not-read, too-long}
+use Rattle.text.proofs.HexDigits.{odd-not-hex}
 use Rattle.frames.proofs.frame.read.Statement.{statement}
 use Rattle.frames.proofs.frame.read.Tie as tie
 
@@ -54,12 +55,12 @@ value-of-requires-2 c κs = search needs
 
 mul-bytes : tie.Need-mul-bytes Inv-loop μ-loop
 mul-bytes c =
-    let d = and-true (ltb (c .before .before .before .value-of .result) 16) (ltb (c .before .value-of2 .result) 16) (c .if3 .taken) in
+    let d = and-eq-true-iff (ltb (c .before .before .before .value-of .result) 16) (ltb (c .before .value-of2 .result) 16) .0 (c .if3 .taken) in
     omega (arith, ltb-true (c .before .before .before .value-of .result) 16 (d .0))
 
 add-bytes : tie.Need-add-bytes Inv-loop μ-loop
 add-bytes c =
-    let d = and-true (ltb (c .before .before .before .value-of .result) 16) (ltb (c .before .value-of2 .result) 16) (c .if3 .taken) in
+    let d = and-eq-true-iff (ltb (c .before .before .before .value-of .result) 16) (ltb (c .before .value-of2 .result) 16) .0 (c .if3 .taken) in
     omega (arith, ltb-true (c .before .before .before .value-of .result) 16 (d .0), ltb-true (c .before .value-of2 .result) 16 (d .1))
 
 slice-write-bytes : tie.Need-slice-write-bytes Inv-loop μ-loop

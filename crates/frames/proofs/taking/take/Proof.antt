@@ -1,4 +1,5 @@
 -- Each form by its test, with the tests before it.
+use mathlib.Core.Bool.{and-eq-true-iff}
 use mathlib.Core.Path.{refl, _∙_, ap}
 use native.Mathlib.Omega.{arith}
 use borrow.Author.Needs.{needs}
@@ -6,7 +7,6 @@ use borrow.Author.Tests.{leb-true, eqb-true}
 use denote.Ref.{now}
 use lib.ListN.{length}
 use lib.Dec.{leb, eqb}
-use Rattle.numbers.proofs.Cases.{and-true}
 use Rattle.frames.specs.Frames.{longestFrame}
 use Rattle.frames.proofs.Calling.{some-first, toldCall, cycle-told}
 use Rattle.frames.proofs.Forms.{to-host, to-reading, to-ticks, to-fresh, to-cycle, to-none, handed-on, unsent, reading-unsent, fresh-unsent}
@@ -21,7 +21,7 @@ take-host-requires c κs =
     let b = c .before .before in
     let k = b .before .before .before in
     let f = now (k .args .frame) in
-    let t = and-true (eqb (b .first-of .result) 1) (leb (length f) longestFrame) (c .before .if1 .taken) in
+    let t = and-eq-true-iff (eqb (b .first-of .result) 1) (leb (length f) longestFrame) .0 (c .before .if1 .taken) in
     (some-first f 0 (rw (← b .first-of .ensures) (t .0)), leb-true (length f) longestFrame (t .1), k .pre)
 
 same-length : tie.Need-same-length
@@ -37,7 +37,7 @@ take-reading-requires : tie.Need-take-reading-requires
 take-reading-requires c κs =
     let b = c .before .before in
     let f = now (b .before .before .before .args .frame) in
-    eqb-true (length f) 9 (and-true (eqb (b .first-of .result) 2) (eqb (length f) 9) (c .if2 .taken) .1)
+    eqb-true (length f) 9 (and-eq-true-iff (eqb (b .first-of .result) 2) (eqb (length f) 9) .0 (c .if2 .taken) .1)
 
 returns-2 : tie.Need-returns-2
 returns-2 c =
@@ -50,7 +50,7 @@ shared-slice-read-take-ticks : tie.Need-shared-slice-read-take-ticks
 shared-slice-read-take-ticks c =
     let b = c .before .before .before .before in
     let f = now (b .before .before .before .args .frame) in
-    omega (arith, eqb-true (length f) 2 (and-true (eqb (b .first-of .result) 3) (eqb (length f) 2) (c .before .if3 .taken) .1))
+    omega (arith, eqb-true (length f) 2 (and-eq-true-iff (eqb (b .first-of .result) 3) (eqb (length f) 2) .0 (c .before .if3 .taken) .1))
 
 take-ticks-requires : tie.Need-take-ticks-requires
 take-ticks-requires c κs = search needs
@@ -69,7 +69,7 @@ shared-slice-read-take-fresh : tie.Need-shared-slice-read-take-fresh
 shared-slice-read-take-fresh c =
     let b = c .before .before .before .before .before in
     let f = now (b .before .before .before .args .frame) in
-    omega (arith, eqb-true (length f) 2 (and-true (eqb (b .first-of .result) 4) (eqb (length f) 2) (c .before .if4 .taken) .1))
+    omega (arith, eqb-true (length f) 2 (and-eq-true-iff (eqb (b .first-of .result) 4) (eqb (length f) 2) .0 (c .before .if4 .taken) .1))
 
 take-fresh-requires : tie.Need-take-fresh-requires
 take-fresh-requires c κs = search needs

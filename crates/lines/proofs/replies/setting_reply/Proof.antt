@@ -1,7 +1,8 @@
 -- The cells and then the end of the line.
 use Rattle.text.specs.Page.{page}
 use Rattle.text.proofs.Pages.{then}
-use Rattle.lines.specs.Replies.{settingText, lineEnd}
+use Rattle.lines.specs.Replies.{settingText}
+use Rattle.text.specs.Control.{crLf}
 use borrow.Author.Needs.{needs}
 use Rattle.lines.proofs.replies.setting_reply.Statement.{statement}
 use Rattle.lines.proofs.replies.setting_reply.Tie as tie
@@ -20,7 +21,7 @@ returns c =
     let k = c .before .before in
     let w = k .before .before .before .before in
     let a = w .before .before .before .args in
-    then (page (a .out .now) (a .at)) (settingText (a .model) (a .s) (a .x)) lineEnd (w .write-setting .ensures) (k .end-line .ensures)
+    then (page (a .out .now) (a .at)) (settingText (a .model) (a .s) (a .x)) crLf (w .write-setting .ensures) (k .end-line .ensures)
 
 pub setting-reply-spec : {M : Type 1} → statement M
 setting-reply-spec =

@@ -4,7 +4,7 @@ use lib.Dec.{ltb}
 use Rattle.text.specs.Page.{Page, page, puts}
 use Rattle.settings.specs.declared.kinds.Kinds.{Kinds}
 use Rattle.lines.specs.Fields.{write}
-use Rattle.lines.specs.Replies.{more}
+use Rattle.lines.specs.Walk.{more}
 use Rattle.lines.proofs.Written.{setting-none, setting-written}
 use borrow.Author.Needs.{needs}
 use Rattle.lines.proofs.replies.write_setting.Statement.{statement}

@@ -9,7 +9,7 @@ use lib.IntN.{ℤ, pos, natAbs, _-ℤ_}
 use mir.Syntax.{w32}
 use mir.Val.{toZ, ofZ}
 use mir.Facts.{toZ-ofZ, toZ-pos}
-use Rattle.numbers.proofs.Cases.{ranged}
+use Rattle.ground.proofs.Cases.{ranged}
 use Rattle.numbers.proofs.Signed.{small, abs-minus}
 use Rattle.numbers.specs.Rounding.{fittedTo}
 use Rattle.numerals.specs.Digits.{part, count}

@@ -1,10 +1,10 @@
 -- `whole::number`: its test is the definition's, and a number of at most three digits fits.
 use Prim.Native.Nat.{_-_, _≤_}
 use mathlib.Core.Path.{_≡_, sym, ap, ap₂, _∙_}
-use mathlib.Core.Bool.{_&&_}
+use mathlib.Core.Bool.{_&&_, and-eq-true-iff}
 use lib.Dec.{leb, eqb}
 use lib.ListN.{length, drop}
-use Rattle.numbers.proofs.Cases.{and-true, ranged}
+use Rattle.ground.proofs.Cases.{ranged}
 use Rattle.numerals.specs.Digits.{lead, rest, count, value}
 use Rattle.numerals.specs.declared.whole.Numeral.the-variants.{Number}
 use Rattle.numerals.proofs.Runs.{run-in, run-lead, run-all, bound-below}
@@ -25,7 +25,7 @@ few : (c : tie.Then1) → (c .before .run .result - c .before .before .before .a
 few c =
     let a = c .before .before .before .args in
     let e = c .before .run .result in
-    omega (arith, ranged 1 (a .most) (e - a .at) (and-true (eqb e (length (a .s .now))) (leb 1 (e - a .at) && leb (e - a .at) (a .most)) (c .if1 .taken) .1))
+    omega (arith, ranged 1 (a .most) (e - a .at) (and-eq-true-iff (eqb e (length (a .s .now))) (leb 1 (e - a .at) && leb (e - a .at) (a .most)) .0 (c .if1 .taken) .1))
 
 run-requires : tie.Need-run-requires
 run-requires c κs = search needs

@@ -4,7 +4,7 @@ use mathlib.Core.Path.{_≡_, sym, ap, ap₂, _∙_}
 use mathlib.Core.Bool.{_&&_}
 use lib.Dec.{leb}
 use lib.ListN.{length}
-use Rattle.numbers.proofs.Cases.{ranged}
+use Rattle.ground.proofs.Cases.{ranged}
 use Rattle.numerals.specs.Digits.{lead, count, value}
 use Rattle.numerals.specs.Whole.{behindPoint, factorOf}
 use Rattle.numerals.proofs.Runs.{run-in, run-lead, run-rest, bound-below}

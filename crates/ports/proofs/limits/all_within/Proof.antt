@@ -3,9 +3,9 @@ use Prim.Native.Nat.{_-_}
 use mathlib.Core.Path.{_≡_, refl, sym, _∙_}
 use mathlib.Core.Bool.{_&&_}
 use lib.ListN.{length, take, drop}
-use Rattle.settings.specs.Lists.{every}
-use Rattle.settings.proofs.Ranges.{next, end}
-use Rattle.ports.specs.Limits.{inRange}
+use Rattle.ground.specs.Members.{every}
+use Rattle.ground.proofs.Ranges.{next, end}
+use Rattle.ground.specs.Ranges.{inRange}
 use borrow.Author.Needs.{needs}
 use native.Mathlib.Omega.{arith}
 use Rattle.ports.proofs.limits.all_within.Statement.{statement}

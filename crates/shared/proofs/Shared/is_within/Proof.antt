@@ -1,7 +1,7 @@
 -- Each callee gives one part of `sharedWithin`; both readings stand in the array, so what stands for a missing one is the same (`entry`).
 use mathlib.Core.Path.{_≡_, sym, ap, _∙_}
 use lib.ListN.{length, length-map}
-use Rattle.text.proofs.Tables.{entry}
+use Rattle.ground.proofs.Tables.{entry}
 use Rattle.gauges.specs.Readings.{noReading}
 use Rattle.shared.specs.Limits.{readingWithin, sharedWithin}
 use borrow.Author.Needs.{needs}

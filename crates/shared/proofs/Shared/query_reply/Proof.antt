@@ -1,7 +1,7 @@
 -- The text of the query and then the end of the line.
 use Rattle.text.specs.Page.{page}
 use Rattle.text.proofs.Pages.{then}
-use Rattle.lines.specs.Replies.{lineEnd}
+use Rattle.text.specs.Control.{crLf}
 use Rattle.shared.specs.Replies.{queryText}
 use borrow.Author.Needs.{needs}
 use Rattle.shared.proofs.Shared.query_reply.Statement.{statement}
@@ -21,7 +21,7 @@ returns c =
     let k = c .before .before in
     let w = k .before .before .before .before in
     let a = w .before .before .before .args in
-    then (page (a .out .now) (a .at)) (queryText (a .self) (a .error) (a .q)) lineEnd (w .write-query .ensures) (k .end-line .ensures)
+    then (page (a .out .now) (a .at)) (queryText (a .self) (a .error) (a .q)) crLf (w .write-query .ensures) (k .end-line .ensures)
 
 pub query-reply-spec : {M : Type 1} → statement M
 query-reply-spec = tie.close (tie.spec write-query-requires end-line-requires same-length returns)

@@ -1,7 +1,7 @@
 -- The readings of all channels and then the end of the line.
 use Rattle.text.specs.Page.{page}
 use Rattle.text.proofs.Pages.{then}
-use Rattle.lines.specs.Replies.{lineEnd}
+use Rattle.text.specs.Control.{crLf}
 use Rattle.shared.specs.Replies.{streamText, perChannel, shownAt}
 use borrow.Author.Needs.{needs}
 use Rattle.shared.proofs.Shared.stream_line.Statement.{statement}
@@ -23,7 +23,7 @@ returns c =
     let w = k .before .before .before .before in
     let a = w .before .before .before .before .args in
     let text = perChannel (a .self .model) (shownAt (a .self .settings .unit) (a .self .readings)) in
-    then (page (a .out .now) (a .at)) text lineEnd (w .write-readings .ensures) (k .end-line .ensures)
+    then (page (a .out .now) (a .at)) text crLf (w .write-readings .ensures) (k .end-line .ensures)
 
 pub stream-line-spec : {M : Type 1} → statement M
 stream-line-spec =

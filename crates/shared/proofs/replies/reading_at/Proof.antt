@@ -1,7 +1,7 @@
 -- The entry of the array (`entry`), and past its end no reading (`List·getD-eq-default`).
 use mathlib.Core.Path.{_≡_, sym, _∙_}
 use lib.ListN.{length, List·getD-eq-default}
-use Rattle.text.proofs.Tables.{entry}
+use Rattle.ground.proofs.Tables.{entry}
 use Rattle.gauges.specs.Readings.{noReading}
 use borrow.Author.Needs.{needs}
 use native.Mathlib.Omega.{arith}

@@ -3,7 +3,7 @@ use mathlib.Core.Path.{_≡_, ap, _∙_}
 use native.Mathlib.Omega.{arith}
 use lib.ListN.{length}
 use Rattle.text.specs.Page.{Page, page, put, puts}
-use Rattle.text.proofs.Tables.{entry}
+use Rattle.ground.proofs.Tables.{entry}
 use Rattle.gauges.specs.Readings.{noReading}
 use Rattle.gauges.specs.Shown.{shownOf, shownText}
 use Rattle.shared.specs.Replies.{shownAt}

@@ -3,14 +3,14 @@ use Prim.Native.Nat.{ℕ, _<_, _^_}
 use mathlib.Core.Path.{_≡_, refl}
 use native.Mathlib.Nat.{one-le-pow, pow-le-pow-right, div-eq-of-lt}
 use lib.ListN.{getD}
-use Rattle.text.proofs.Tables.{listed, tabled}
+use Rattle.ground.proofs.Tables.{entries, tabled}
 use borrow.Author.Needs.{needs}
 use native.Mathlib.Omega.{arith}
 use Rattle.text.proofs.digits.digit_at.Statement.{statement}
 use Rattle.text.proofs.digits.digit_at.Tie as tie
 
-power : (k : ℕ) → k < 10 → 10 ^ k ≡ getD (listed (λ (i : ℕ). 10 ^ i) 10 0) k 0
-power k h = tabled (λ (i : ℕ). 10 ^ i) 10 (listed (λ (i : ℕ). 10 ^ i) 10 0) refl k 0 h
+power : (k : ℕ) → k < 10 → 10 ^ k ≡ getD (entries (λ (i : ℕ). 10 ^ i) 10 0) k 0
+power k h = tabled (λ (i : ℕ). 10 ^ i) 10 (entries (λ (i : ℕ). 10 ^ i) 10 0) refl k 0 h
 
 mul-result : tie.Need-mul-result
 mul-result c = search needs

@@ -1,9 +1,8 @@
 -- Each test in its order: the state, the channel, the reading.
 use mathlib.Core.Path.{_≡_, sym, _∙_}
-use mathlib.Core.Bool.{true, false}
+use mathlib.Core.Bool.{true, false, and-eq-true-iff}
 use mir.Facts.{toZ-ofZ}
 use borrow.Author.Tests.{leb-true}
-use Rattle.numbers.proofs.Cases.{and-true}
 use Rattle.tpg.specs.Calls.{isChannel}
 use Rattle.tpg.proofs.Deciding.{without-output, unsound, elsewhere, outside, accepted}
 use borrow.Author.Needs.{needs}
@@ -20,7 +19,7 @@ is-within-requires : tie.Need-is-within-requires
 is-within-requires c κs = search needs
 
 sub-take : tie.Need-sub-take
-sub-take c = leb-true _ _ (and-true _ _ (c .before .before .if2 .taken) .0)
+sub-take c = leb-true _ _ (and-eq-true-iff _ _ .0 (c .before .before .if2 .taken) .0)
 
 take-requires : tie.Need-take-requires
 take-requires c κs = search needs

@@ -1,5 +1,5 @@
 -- `Value::scaled`: by one the value stays as it is (`scaled-one`).
-use Rattle.numbers.proofs.Cases.{and-true}
+use mathlib.Core.Bool.{and-eq-true-iff}
 use Rattle.numbers.proofs.Scaling.{scaled-one}
 use borrow.Author.Tests.{eqb-true}
 use lib.Dec.{eqb}
@@ -10,7 +10,7 @@ use Rattle.numbers.proofs.value.Value.scaled.Tie as tie
 returns : tie.Need-returns
 returns c =
     let a = c .before .before .before .args in
-    let both = and-true (eqb (a .ratio .over) 1) (eqb (a .ratio .under) 1) (c .if1 .taken) in
+    let both = and-eq-true-iff (eqb (a .ratio .over) 1) (eqb (a .ratio .under) 1) .0 (c .if1 .taken) in
     scaled-one (a .self) (a .ratio) (eqb-true _ _ (both .0)) (eqb-true _ _ (both .1))
 
 multiplied-requires : tie.Need-multiplied-requires

@@ -1,0 +1,4 @@
+pub mod Cases
+pub mod Members
+pub mod Ranges
+pub mod Tables

@@ -14,6 +14,7 @@ use Rattle.settings.specs.Models.{channels}
 use Rattle.settings.specs.Mnemonics.{sheet, name}
 use Rattle.settings.specs.Rows.{cells}
 use Rattle.ground.specs.Members.{Each}
+use Rattle.ground.proofs.Cases.{ranged}
 use Rattle.settings.specs.Limits.{within}
 use Rattle.settings.specs.declared.model.Model.{Model}
 use Rattle.settings.specs.declared.model.Model.the-variants.{Tpg361, Tpg362}
@@ -96,7 +97,7 @@ behind-line t rest p =
     ap (λ (l : List ℕ). drop (length l + 2) all) (first-line t rest p) ∙ sym (drop-drop 2 (length t) all) ∙ ap (drop 2) (drop-append-seam t (13 ∷ 10 ∷ rest))
 
 pub no-cr : (l : List ℕ) → Each Character l → Each (λ (c : ℕ). c ≢ 13) l
-no-cr = each-map Character (λ (c : ℕ). c ≢ 13) (λ c h e. omega (arith, h .0))
+no-cr = each-map Character (λ (c : ℕ). c ≢ 13) (λ c h e. omega (arith, ranged 33 126 c h .0))
 
 -- from the replies of a box come the lines of its settings
 lines-copied : (model : Model) (a : Settings) (xs : List Setting) → copyLines xs (replies model a xs) ≡ map (lineOf model a) xs

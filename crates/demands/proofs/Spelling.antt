@@ -5,7 +5,7 @@ use mathlib.Core.Path.{_≡_, refl, ap, _∙_}
 use mathlib.Core.List.{List, [], _∷_}
 use mathlib.Core.Bool.{Bool, true, cond, _&&_, and-eq-true-iff}
 use native.Mathlib.Omega.{arith}
-use borrow.Author.Tests.{leb-true, lt-ltb, ne-eqb}
+use borrow.Author.Tests.{leb-true, le-leb, ne-eqb}
 use lib.ListN.{length, length-append}
 use lib.Dec.{leb, ltb}
 use Rattle.numbers.specs.declared.threshold.Threshold.{Threshold}
@@ -31,7 +31,6 @@ use Rattle.lines.specs.declared.verdict.Fault.the-variants.{Hardware}
 use Rattle.lines.specs.declared.verdict.Verdict.the-variants.{Refused}
 use Rattle.lines.proofs.Walking.{judged-parts}
 use Rattle.lines.proofs.Accepted.{Spelt, fields-one}
-use Rattle.ground.specs.Ranges.{inRange}
 use Rattle.shared.proofs.Lengths.{setting-short}
 use Rattle.demands.specs.Wire.{Inner, undropped, lineIn}
 use Rattle.text.specs.Control.{isCharacter}
@@ -39,9 +38,8 @@ use Rattle.demands.proofs.Typing.{short-good}
 
 -- ---- lines that are what is sent of them
 
--- a byte above the space and below 127
 abbrev pub Character : ℕ → Type 0
-Character b = (33 ≤ b) × (b ≤ 126)
+Character b = isCharacter b ≡ true
 
 -- up to 80 of them
 pub record Typeable (l : List ℕ) : Type 0 where
@@ -49,7 +47,9 @@ pub record Typeable (l : List ℕ) : Type 0 where
   pub few : length l ≤ 80
 
 inner : (b : ℕ) → Character b → Inner b
-inner b c = ((λ e. omega (arith, c .0)), (λ e. omega (arith, c .0)), (λ e. omega (arith, c .0)))
+inner b c =
+    let r = ranged 33 126 b c in
+    ((λ e. omega (arith, r .0)), (λ e. omega (arith, r .0)), (λ e. omega (arith, r .0)))
 
 pub typeable-inner : (l : List ℕ) → Typeable l → Each Inner l
 typeable-inner l t = each-map Character Inner inner l (t .characters)
@@ -58,18 +58,17 @@ all-kept : (l : List ℕ) → Each Character l → undropped l ≡ l
 unfolding undropped
 all-kept [] c = refl
 all-kept (b ∷ l) c =
-    rw (ne-eqb b 10 (λ e. omega (arith, c .0 .0)), ne-eqb b 32 (λ e. omega (arith, c .0 .0))) (ap (λ (t : List ℕ). b ∷ t) (all-kept l (c .1)))
+    let r = ranged 33 126 b (c .0) in
+    rw (ne-eqb b 10 (λ e. omega (arith, r .0)), ne-eqb b 32 (λ e. omega (arith, r .0))) (ap (λ (t : List ℕ). b ∷ t) (all-kept l (c .1)))
 
 pub typeable-line : (l : List ℕ) → Typeable l → lineIn l ≡ l
-typeable-line l t =
-    let test = each-map Character (λ (b : ℕ). isCharacter b ≡ true) (λ b c. rw (lt-ltb 32 b (c .0), lt-ltb b 127 (omega (arith, c .1)))) l (t .characters) in
-    rw (all-kept l (t .characters), short-good l test (t .few))
+typeable-line l t = rw (all-kept l (t .characters), short-good l (t .characters) (t .few))
 
 -- ---- names
 
 -- three characters
 short : List ℕ → Bool
-short n = every (inRange 33 126) n && leb (length n) 3
+short n = every isCharacter n && leb (length n) 3
 
 pub record Short (n : List ℕ) : Type 0 where
   pub characters : Each Character n
@@ -83,9 +82,9 @@ pub names-short : (model : Model) → Each (λ (m : Mnemonic). Short (name m)) (
 unfolding short
 names-short model =
     each-map (λ (m : Mnemonic). short (name m) ≡ true) (λ (m : Mnemonic). Short (name m))
-    (λ m e. let b = and-eq-true-iff (every (inRange 33 126) (name m)) (leb (length (name m)) 3) .0 e in
+    (λ m e. let b = and-eq-true-iff (every isCharacter (name m)) (leb (length (name m)) 3) .0 e in
     record {
-      characters = each-map _ Character (λ c. ranged 33 126 c) (name m) (every-each (inRange 33 126) (name m) (b .0));
+      characters = every-each isCharacter (name m) (b .0);
       few = leb-true (length (name m)) 3 (b .1);
     })
     (known model) (every-each (λ (m : Mnemonic). short (name m)) (known model) (short-names model))
@@ -102,11 +101,11 @@ each-joined P c (f ∷ g ∷ fs) p = each-append P f (44 ∷ joined (g ∷ fs)) 
 
 written-characters : Written Character
 written-characters = record {
-  digit = (λ b l h. (omega arith, omega arith));
-  point = (omega arith, omega arith);
-  letter = (omega arith, omega arith);
-  plus = (omega arith, omega arith);
-  minus = (omega arith, omega arith);
+  digit = (λ b l h. rw (le-leb 33 b (omega arith), le-leb b 126 (omega arith)));
+  point = refl;
+  letter = refl;
+  plus = refl;
+  minus = refl;
 }
 
 texts-characters : (ks : List Kind) (cs : List Threshold) → Each (Each Character) (texts ks cs)
@@ -119,13 +118,13 @@ unfolding settingText
 setting-characters model s x =
     let ks = kinds model (Of x) in
     let cs = cells model s x in
-    each-joined Character (omega arith, omega arith) (texts ks cs) (texts-characters ks cs)
+    each-joined Character refl (texts ks cs) (texts-characters ks cs)
 
 -- a mnemonic, a comma and its reply
 pub line-typeable : (model : Model) (s : Settings) (x : Setting) → Short (name (Of x)) → Typeable (lineOf model s x)
 line-typeable model s x h =
     record {
-      characters = each-append Character (name (Of x)) (44 ∷ settingText model s x) (h .characters) ((omega arith, omega arith), setting-characters model s x);
+      characters = each-append Character (name (Of x)) (44 ∷ settingText model s x) (h .characters) (refl, setting-characters model s x);
       few = omega (arith, length-append (name (Of x)) (44 ∷ settingText model s x), h .few, setting-short model s x);
     }
 

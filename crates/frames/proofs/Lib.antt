@@ -6,4 +6,4 @@ pub mod Forms
 pub mod Answering
 pub mod Kept
 pub mod Instances
-pub mod Measured
+pub mod TwosComplement

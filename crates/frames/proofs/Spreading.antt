@@ -8,6 +8,7 @@ use lib.Seq.{length-take-le, take-take, take-set-le, getD-take, drop-cons, set-a
 use Rattle.ground.proofs.Cases.{never}
 use Rattle.tpg.specs.Steps.{over}
 use Rattle.text.specs.Hex.{digitOf, pair, hex}
+use Rattle.text.proofs.HexDigits.{hex-length}
 
 -- two places next to each other
 two : (l : List ℕ) (n a b : ℕ) → suc n < length l → drop n (set (set l n a) (suc n) b) ≡ a ∷ b ∷ drop (suc (suc n)) l

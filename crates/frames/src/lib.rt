@@ -7,7 +7,7 @@ use tpg::State;
 
 mod frame;
 mod measured;
-mod spreading;
+mod spread;
 mod taking;
 
 // The longest output line: 255 ticks with a line of the stream each.
@@ -47,6 +47,6 @@ pub fn answer(state: State, line: &[u8], out: &mut [u8]) -> Answered
     let len = frame::read(line, &mut bytes);
     let told = taking::take(state, &bytes[..len], out);
     let next = told.state;
-    let written = spreading::spread(out, told.number, told.count);
+    let written = spread::spread(out, told.number, told.count);
     handed(told.number, next, written)
 }

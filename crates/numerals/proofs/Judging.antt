@@ -11,7 +11,7 @@ use lib.Seq.{paste, take-paste, length-paste}
 use Rattle.numerals.specs.Digits.{part, lead, rest, headIs, count}
 use Rattle.numerals.specs.Threshold.{afterPlus, powerOf, weighed, judged, fraction, afterFraction, thresholdOf}
 use Rattle.numerals.specs.declared.threshold.ThresholdNumeral.the-variants.{Malformed}
-use Rattle.numerals.proofs.Runs.{drop-one, head-in, run-lead, run-rest, part-length, part-none}
+use Rattle.numerals.proofs.DigitRuns.{drop-one, head-in, run-lead, run-rest, part-length, part-none}
 
 module _ (whole fraction s : List ℕ) where
   pub judged-taken : count 1 12 (whole ++ fraction) ≡ true → weighed (whole ++ fraction) (length fraction) (powerOf s) ≡ judged whole fraction s

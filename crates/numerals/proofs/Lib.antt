@@ -1,4 +1,4 @@
-pub mod Runs
+pub mod DigitRuns
 pub mod Wholes
 pub mod Powers
 pub mod Judging

@@ -18,7 +18,7 @@ use Rattle.numerals.specs.declared.threshold.Power.the-variants.{Ten, No
 use Rattle.numerals.specs.declared.whole.Numeral.{Numeral}
 use Rattle.numerals.specs.declared.whole.Numeral.the-variants.{Number, Malformed}
 use Rattle.ground.proofs.Cases.{cond-cases, or-either}
-use Rattle.numerals.proofs.Runs.{drop-one, head-in}
+use Rattle.numerals.proofs.DigitRuns.{drop-one, head-in}
 use Rattle.numbers.proofs.Signed.{abs-neg}
 use Rattle.numerals.proofs.Wholes.{number-read}
 

@@ -28,7 +28,7 @@ use Rattle.numerals.specs.Threshold.{afterPlus, afterSign, powerOf, conc
 use Rattle.numerals.specs.declared.threshold.ThresholdNumeral.the-variants.{Within}
 use Rattle.numerals.specs.declared.threshold.Power.the-variants.{Ten}
 use Rattle.numerals.specs.declared.whole.Numeral.the-variants.{Number}
-use Rattle.numerals.proofs.Runs.{value-none}
+use Rattle.numerals.proofs.DigitRuns.{value-none}
 use Rattle.numerals.proofs.Wholes.{number-is, factor-taken}
 
 -- ---- over the digit count

@@ -14,7 +14,7 @@ use Rattle.numbers.specs.Rounding.{fittedTo, Nearest}
 use Rattle.numbers.specs.declared.threshold.Threshold.{Threshold}
 use Rattle.numbers.specs.declared.threshold.Fitted.{Fitted}
 use Rattle.numbers.specs.declared.threshold.Fitted.the-variants.{Within as Fits, Outside}
-use Rattle.numerals.proofs.Runs.{AllDigits, lead-digits, digits-join, value-below}
+use Rattle.numerals.proofs.DigitRuns.{AllDigits, lead-digits, digits-join, value-below}
 use Rattle.numerals.specs.Digits.{lead, rest, headIs, count, value}
 use Rattle.numerals.specs.Threshold.{afterPlus, fraction, powerOf, concluded, weighed, judged, wholePart, fractionPart, powerPart, thresholdOf}
 use Rattle.numerals.specs.declared.threshold.ThresholdNumeral.the-variants.{Within, Malformed}

@@ -12,7 +12,7 @@ use Rattle.numerals.specs.Digits.{lead, rest, headIs, count, value}
 use Rattle.numerals.specs.Whole.{numberOf, thousandths, behindPoint, factorOf}
 use Rattle.numerals.specs.declared.whole.Numeral.the-variants.{Number, Malformed}
 use Rattle.ground.proofs.Cases.{never}
-use Rattle.numerals.proofs.Runs.{drop-one, lead-digits, value-below, lead-rest-length}
+use Rattle.numerals.proofs.DigitRuns.{drop-one, lead-digits, value-below, lead-rest-length}
 
 module _ (most : ℕ) (s : List ℕ) where
   pub number-taken : eqb (length (rest s)) 0 && count 1 most (lead s) ≡ true → Number (value 0 (lead s)) ≡ numberOf most s

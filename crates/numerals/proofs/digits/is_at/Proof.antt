@@ -1,6 +1,6 @@
 -- `digits::is_at`: the byte at the place, or no byte there.
 use mathlib.Core.Path.{sym}
-use Rattle.numerals.proofs.Runs.{head-at, head-out}
+use Rattle.numerals.proofs.DigitRuns.{head-at, head-out}
 use borrow.Author.Needs.{needs}
 use native.Mathlib.Omega.{arith}
 use Rattle.numerals.proofs.digits.is_at.Statement.{statement}

@@ -4,7 +4,7 @@ use mathlib.Core.Logic.{⊎-elim}
 use Prim.Native.Nat.{ℕ, _≤_}
 use lib.ListN.{length}
 use Rattle.numerals.specs.Digits.{part}
-use Rattle.numerals.proofs.Runs.{part-rest, part-none}
+use Rattle.numerals.proofs.DigitRuns.{part-rest, part-none}
 use borrow.Author.Needs.{needs}
 use native.Mathlib.Omega.{arith}
 use Rattle.numerals.proofs.digits.part.Statement.{statement}

@@ -3,7 +3,7 @@ use Prim.Native.Nat.{_≤_, _+_, _-_}
 use mathlib.Core.Path.{_≡_}
 use lib.ListN.{length, drop}
 use Rattle.numerals.specs.Digits.{lead}
-use Rattle.numerals.proofs.Runs.{lead-more, lead-low, lead-high, lead-end}
+use Rattle.numerals.proofs.DigitRuns.{lead-more, lead-low, lead-high, lead-end}
 use borrow.Author.Needs.{needs}
 use native.Mathlib.Omega.{arith}
 use Rattle.numerals.proofs.digits.run.Statement.{statement}

@@ -4,7 +4,7 @@ use mathlib.Core.Path.{_≡_, refl, sym, ap, _∙_}
 use lib.ListN.{getD}
 use native.Mathlib.Nat.{sub-self}
 use Rattle.numerals.specs.Digits.{part, value}
-use Rattle.numerals.proofs.Runs.{part-cons, part-none, value-more, value-none, bound-more, bound-below}
+use Rattle.numerals.proofs.DigitRuns.{part-cons, part-none, value-more, value-none, bound-more, bound-below}
 use borrow.Author.Needs.{needs}
 use native.Mathlib.Omega.{arith}
 use Rattle.numerals.proofs.digits.value.Statement.{statement}

@@ -2,7 +2,7 @@
 use Prim.Native.Nat.{_+_}
 use mathlib.Core.Path.{sym, _∙_}
 use Prim.Native.Char.{code}
-use Rattle.numerals.proofs.Runs.{head-in, run-in}
+use Rattle.numerals.proofs.DigitRuns.{head-in, run-in}
 use Rattle.numerals.proofs.Judging.{point-there, point-not}
 use borrow.Author.Needs.{needs}
 use native.Mathlib.Omega.{arith}

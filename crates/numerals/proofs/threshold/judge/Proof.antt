@@ -15,7 +15,7 @@ use Rattle.numbers.specs.Rounding.{fittedTo}
 use Rattle.numerals.specs.Digits.{part, count}
 use Rattle.numerals.specs.Threshold.{concluded, weighed}
 use Rattle.numerals.proofs.Powers.{TwoDigits, power-two}
-use Rattle.numerals.proofs.Runs.{part-length}
+use Rattle.numerals.proofs.DigitRuns.{part-length}
 use Rattle.numerals.proofs.Judging.{count-runs, judged-taken, judged-left}
 use borrow.Author.Needs.{needs}
 use native.Mathlib.Omega.{arith}

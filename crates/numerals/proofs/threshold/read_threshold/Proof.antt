@@ -2,7 +2,7 @@
 use Prim.Native.Char.{code}
 use mathlib.Core.Path.{sym, ap, _∙_}
 use Rattle.numerals.specs.Threshold.{thresholdOf}
-use Rattle.numerals.proofs.Runs.{head-in}
+use Rattle.numerals.proofs.DigitRuns.{head-in}
 use Rattle.numerals.proofs.Judging.{plus-there, plus-not}
 use borrow.Author.Needs.{needs}
 use native.Mathlib.Omega.{arith}

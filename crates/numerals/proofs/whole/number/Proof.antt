@@ -7,7 +7,7 @@ use lib.ListN.{length, drop}
 use Rattle.ground.proofs.Cases.{ranged}
 use Rattle.numerals.specs.Digits.{lead, rest, count, value}
 use Rattle.numerals.specs.declared.whole.Numeral.the-variants.{Number}
-use Rattle.numerals.proofs.Runs.{run-in, run-lead, run-all, bound-below}
+use Rattle.numerals.proofs.DigitRuns.{run-in, run-lead, run-all, bound-below}
 use Rattle.numerals.proofs.Wholes.{number-taken, number-left}
 use borrow.Author.Needs.{needs}
 use native.Mathlib.Omega.{arith}

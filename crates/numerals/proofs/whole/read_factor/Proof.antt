@@ -7,7 +7,7 @@ use lib.ListN.{length}
 use Rattle.ground.proofs.Cases.{ranged}
 use Rattle.numerals.specs.Digits.{lead, count, value}
 use Rattle.numerals.specs.Whole.{behindPoint, factorOf}
-use Rattle.numerals.proofs.Runs.{run-in, run-lead, run-rest, bound-below}
+use Rattle.numerals.proofs.DigitRuns.{run-in, run-lead, run-rest, bound-below}
 use Rattle.numerals.proofs.Wholes.{factor-taken, factor-left}
 use borrow.Author.Needs.{needs}
 use native.Mathlib.Omega.{arith}

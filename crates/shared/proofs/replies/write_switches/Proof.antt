@@ -4,26 +4,26 @@ use borrow.Author.Needs.{needs}
 use Rattle.shared.proofs.replies.write_switches.Statement.{statement}
 use Rattle.shared.proofs.replies.write_switches.Tie as tie
 
-array-read-digit-of : tie.Need-array-read-digit-of
-array-read-digit-of c = search needs
+array-read-binary : tie.Need-array-read-binary
+array-read-binary c = search needs
 
 binary-requires : tie.Need-binary-requires
 binary-requires c κs = search needs
 
-array-read-digit-of-2 : tie.Need-array-read-digit-of-2
-array-read-digit-of-2 c = search needs
+array-read-binary-2 : tie.Need-array-read-binary-2
+array-read-binary-2 c = search needs
 
 binary-requires-2 : tie.Need-binary-requires-2
 binary-requires-2 c κs = search needs
 
-array-read-digit-of-3 : tie.Need-array-read-digit-of-3
-array-read-digit-of-3 c = search needs
+array-read-binary-3 : tie.Need-array-read-binary-3
+array-read-binary-3 c = search needs
 
 binary-requires-3 : tie.Need-binary-requires-3
 binary-requires-3 c κs = search needs
 
-array-read-digit-of-4 : tie.Need-array-read-digit-of-4
-array-read-digit-of-4 c = search needs
+array-read-binary-4 : tie.Need-array-read-binary-4
+array-read-binary-4 c = search needs
 
 binary-requires-4 : tie.Need-binary-requires-4
 binary-requires-4 c κs = search needs
@@ -48,13 +48,13 @@ pub write-switches-spec : {M : Type 1} → statement M
 write-switches-spec =
     tie.close
     (tie.spec
-    array-read-digit-of
+    array-read-binary
     binary-requires
-    array-read-digit-of-2
+    array-read-binary-2
     binary-requires-2
-    array-read-digit-of-3
+    array-read-binary-3
     binary-requires-3
-    array-read-digit-of-4
+    array-read-binary-4
     binary-requires-4
     slice-aggregate-append
     append-requires

@@ -6,8 +6,8 @@ use denote.Ref.{now}
 use lib.ListN.{length-set}
 use Rattle.text.specs.Hex.{digitOf}
 use Rattle.frames.proofs.Spreading.{Spread, start, step, ended}
-use Rattle.frames.proofs.spreading.spread.Statement.{statement}
-use Rattle.frames.proofs.spreading.spread.Tie as tie
+use Rattle.frames.proofs.spread.spread.Statement.{statement}
+use Rattle.frames.proofs.spread.spread.Tie as tie
 
 abbrev Inv-loop : tie.InvT-loop
 Inv-loop out₀ number count digits i₀ out i = Spread out₀ out count i

@@ -12,18 +12,18 @@ use Rattle.text.specs.Spans.{until}
 use Rattle.tpg.specs.Steps.{over}
 use Rattle.tpg.proofs.Laying.{laidAt, laid-length, laid-more, laid-nothing}
 use Rattle.tpg.specs.declared.State.{State}
-use Rattle.frames.specs.Frames.{reply, lineOf, longestLine, answerCall, answerLine}
-use Rattle.frames.specs.declared.Answered.{Answered}
+use Rattle.frames.specs.Frames.{lineReply, outputLine, longestLine, answerCall, answerLine}
+use Rattle.frames.specs.declared.FrameOutcome.{FrameOutcome}
 use Rattle.frames.proofs.Bounds.{line-fits}
-use Rattle.bench.specs.Lines.{finished, behindLines, afterLines, linesText, fitting}
-use Rattle.bench.specs.declared.Left.{Left}
-use Rattle.bench.proofs.Finished.{next-line, last-line, end-inside}
+use Rattle.bench.specs.Blocks.{finished, behindLines, afterLines, linesText, fitting}
+use Rattle.bench.specs.declared.BlockOutcome.{BlockOutcome}
+use Rattle.bench.proofs.Finished.{next-line, last-line, line-inside}
 
 -- ---- lines that fit
 
 module _ (s : State) where
   pub fitting-more : (l : List ℕ) (ls : List (List ℕ)) (free : ℕ) → longestLine ≤ free
-      → fitting s (l ∷ ls) free ≡ l ∷ fitting (reply s l .state) ls (free - length (lineOf (reply s l)))
+      → fitting s (l ∷ ls) free ≡ l ∷ fitting (lineReply s l .state) ls (free - length (outputLine (lineReply s l)))
   unfolding fitting
   fitting-more l ls free room = rw (le-leb longestLine free room)
 
@@ -34,8 +34,8 @@ module _ (s : State) where
 
   -- with room a line is answered what its frame gives
   answered : (line : List ℕ) (room : ℕ) → longestLine ≤ room
-      → (answerCall s line room ≡ record { number = reply s line .number; state = reply s line .state; written = length (lineOf (reply s line)) })
-      × (answerLine s line room ≡ lineOf (reply s line))
+      → (answerCall s line room ≡ record { number = lineReply s line .number; state = lineReply s line .state; written = length (outputLine (lineReply s line)) })
+      × (answerLine s line room ≡ outputLine (lineReply s line))
   unfolding answerCall answerLine
   answered line room enough = rw (le-leb longestLine room enough) (refl, refl)
 
@@ -57,19 +57,19 @@ abbrev pub firstLines : State → List ℕ → ℕ → List (List ℕ)
 firstLines s block free = fitting s (finished block) free
 
 -- what is left once lines are answered
-abbrev pub leftBy : State → List (List ℕ) → Left
+abbrev pub leftBy : State → List (List ℕ) → BlockOutcome
 leftBy s ls = record { state = afterLines s ls; from = behindLines ls; written = length (linesText s ls) }
 
 -- the same from a place of the block on, and behind so much of the output
-abbrev leftFrom : State → List (List ℕ) → ℕ → ℕ → Left
+abbrev leftFrom : State → List (List ℕ) → ℕ → ℕ → BlockOutcome
 leftFrom s ls from at = record { state = afterLines s ls; from = from + behindLines ls; written = at + length (linesText s ls) }
 
 one-more : (s : State) (l : List ℕ) (ls : List (List ℕ)) (from at to : ℕ) → to ≡ from + length l
-    → leftFrom (reply s l .state) ls (to + 1) (at + length (lineOf (reply s l))) ≡ leftFrom s (l ∷ ls) from at
+    → leftFrom (lineReply s l .state) ls (to + 1) (at + length (outputLine (lineReply s l))) ≡ leftFrom s (l ∷ ls) from at
 unfolding afterLines behindLines linesText
 one-more s l ls from at to end =
-    let next = reply s l .state in
-    let text = lineOf (reply s l) in
+    let next = lineReply s l .state in
+    let text = outputLine (lineReply s l) in
     let place : to + 1 + behindLines ls ≡ from + (length l + 1 + behindLines ls) = omega arith in
     let count : at + length text + length (linesText next ls) ≡ at + length (text ++ linesText next ls) = omega (arith, length-append text (linesText next ls)) in
     λ i. record { state = afterLines next ls; from = place i; written = count i }
@@ -99,7 +99,7 @@ start s block out to end =
 
 module _ {s : State} {block out₀ : List ℕ} {now : State} {out : List ℕ} {from at to : ℕ} (a : Answering s block out₀ now out from at to) where
   pub to-inside : (from ≤ to) × (to ≤ length block)
-  to-inside = end-inside block from to (a .end) (a .low)
+  to-inside = line-inside block from to (a .end) (a .low)
 
   abbrev Ended : Type 0
   Ended =
@@ -121,10 +121,10 @@ module _ {s : State} {block out₀ : List ℕ} {now : State} {out : List ℕ} {f
   line = take (to - from) (drop from block)
 
   abbrev next : State
-  next = reply now line .state
+  next = lineReply now line .state
 
   abbrev text : List ℕ
-  text = lineOf (reply now line)
+  text = outputLine (lineReply now line)
 
   abbrev part : List ℕ
   part = take (length out - at) (drop at out)
@@ -158,7 +158,7 @@ module _ {s : State} {block out₀ : List ℕ} {now : State} {out : List ℕ} {f
           bytes = laid-more at text out (a .inside) (linesText next ls) ∙ rw ahead at (a .bytes);
         }
 
-    pub step : (r : Answered) (put : List ℕ) → (r ≡ answerCall now line (length part)) × (put ≡ over (answerLine now line (length part)) part) → (to' : ℕ)
+    pub step : (r : FrameOutcome) (put : List ℕ) → (r ≡ answerCall now line (length part)) × (put ≡ over (answerLine now line (length part)) part) → (to' : ℕ)
         → to' ≡ to + 1 + length (until 10 (drop (to + 1) block)) → Answering s block out₀ (r .state) (putMid at (length out - at) out put) (to + 1) (at + r .written) to'
     step r put told to' end =
         let w = answered now line (length part) (omega (arith, length-take-le (length out - at) (drop at out) (omega (arith, length-drop at out)))) in

@@ -11,7 +11,7 @@ use lib.Dec.{eqb}
 use Rattle.ground.proofs.Cases.{below, never, cond-cases}
 use Rattle.text.specs.Spans.{until}
 use Rattle.text.proofs.Marks.{until-few}
-use Rattle.bench.specs.Lines.{onNext, finished, behindLines}
+use Rattle.bench.specs.Blocks.{onNext, finished, behindLines}
 
 -- with an LF there is a first line and those behind it, without one none
 line-more : (s : List ℕ) → length (until 10 s) < length s → finished s ≡ take (length (until 10 s)) s ∷ finished (drop (suc (length (until 10 s))) s)
@@ -46,8 +46,8 @@ module _ (block : List ℕ) (from to : ℕ) (end : to ≡ from + length (until 1
   pub last-line : length block ≤ to → finished (drop from block) ≡ []
   last-line none = line-none (drop from block) (omega (arith, length-drop from block))
 
-  pub end-inside : from ≤ length block → (from ≤ to) × (to ≤ length block)
-  end-inside low = (omega arith, omega (arith, until-few 10 (drop from block), length-drop from block))
+  pub line-inside : from ≤ length block → (from ≤ to) × (to ≤ length block)
+  line-inside low = (omega arith, omega (arith, until-few 10 (drop from block), length-drop from block))
 
 -- the lines behind the first
 pub rest-of : (block l : List ℕ) (ls : List (List ℕ)) → finished block ≡ l ∷ ls → finished (drop (length l + 1) block) ≡ ls

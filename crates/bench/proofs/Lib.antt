@@ -1,4 +1,4 @@
 pub mod Blocks
 pub mod Finished
 pub mod Answering
-pub mod Writing
+pub mod WholeBlocks

@@ -4,7 +4,7 @@ ghost use Prim.Native.Nat.{_≤_};
 ghost use lib.ListN.{length, take, drop};
 ghost use Rattle.tpg.specs.Steps.{over};
 ghost use Rattle.frames.specs.Frames.{longestLine};
-ghost use Rattle.bench.specs.Lines.{finished, behindLines, afterLines, linesText, fitting};
+ghost use Rattle.bench.specs.Blocks.{finished, behindLines, afterLines, linesText, fitting};
 ghost use Rattle.bench.specs.Walk.{keptCount};
 use frames::LONGEST_FRAME;
 use frames::LONGEST_LINE;
@@ -18,14 +18,14 @@ use tpg::State;
 const KEPT: usize = 2 * LONGEST_FRAME + 1;
 
 // The box, where the first line that is not answered begins, and how much of the output is still to be written.
-struct Left {
+struct BlockOutcome {
     pub state: State,
     pub from: usize,
     pub written: usize,
 }
 
 // The finished lines of a block answered, as long as the longest line has room in the output.
-fn answer_lines(state: State, block: &[u8], out: &mut [u8]) -> Left
+fn answer_lines(state: State, block: &[u8], out: &mut [u8]) -> BlockOutcome
     ensures { λ r. ⌜ (let ls = fitting state (finished (now (block .entry))) (length (now (out .entry))) in (r ≡ record { state = afterLines state ls; from = behindLines ls; written = length (linesText state ls) }) × (now (out .exit) ≡ over (linesText state ls) (now (out .entry)))) ⌝ }
 {
     let mut now = state;
@@ -34,7 +34,7 @@ fn answer_lines(state: State, block: &[u8], out: &mut [u8]) -> Left
     let mut to = end_of(block, 0, LF);
     while to < block.len() {
         if out.len() - at < LONGEST_LINE {
-            return Left {
+            return BlockOutcome {
                 state: now,
                 from,
                 written: at,
@@ -47,7 +47,7 @@ fn answer_lines(state: State, block: &[u8], out: &mut [u8]) -> Left
         from = to + 1;
         to = end_of(block, from, LF);
     }
-    Left {
+    BlockOutcome {
         state: now,
         from,
         written: at,
@@ -55,7 +55,7 @@ fn answer_lines(state: State, block: &[u8], out: &mut [u8]) -> Left
 }
 
 // Every finished line of a block answered, in as few writes as the output's room allows.
-fn answer_block(state: State, block: &[u8], out: &mut [u8]) -> Left
+fn answer_block(state: State, block: &[u8], out: &mut [u8]) -> BlockOutcome
     requires { ⌜ longestLine ≤ length (now out) ⌝ }
     ensures { λ r. ⌜ (let ls = finished (now (block .entry)) in r ≡ record { state = afterLines state ls; from = behindLines ls; written = 0 }) ⌝ }
 {
@@ -64,7 +64,7 @@ fn answer_block(state: State, block: &[u8], out: &mut [u8]) -> Left
     loop {
         let answered = answer_lines(now, &block[from..], out);
         if answered.from == 0 {
-            return Left {
+            return BlockOutcome {
                 state: now,
                 from,
                 written: 0,

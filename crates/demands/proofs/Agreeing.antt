@@ -7,8 +7,8 @@ use Rattle.ground.specs.Members.{every, Each}
 use Rattle.lines.specs.Judging.{judged}
 use Rattle.lines.specs.declared.word.Word.{Word}
 use Rattle.ports.specs.Line.{isEmpty}
-use Rattle.shared.specs.Events.{heard}
-use Rattle.shared.specs.declared.Shared.{Shared}
+use Rattle.instrument.specs.Events.{applied}
+use Rattle.instrument.specs.declared.Instrument.{Instrument}
 use Rattle.tpg.specs.States.{Sound}
 use Rattle.tpg.specs.Steps.{after, said}
 use Rattle.tpg.specs.declared.State.{State}
@@ -42,7 +42,7 @@ module _ (says : Says) (becomes : Becomes) (meets : Meets says becomes) where
 record Alike (s t : State) : Type 0 where
   first : Sound s
   second : Sound t
-  shared : s .shared ≡ t .shared
+  instrument : s .instrument ≡ t .instrument
   error : s .port .error ≡ t .port .error
   emptied : isEmpty (s .port) ≡ true
   empty : isEmpty (t .port) ≡ true
@@ -60,13 +60,13 @@ module _ (says : Says) (becomes : Becomes) (meets : Meets says becomes) where
       let theirs = bytes-meet .leaves t (a .second) w rt (l .bytes) (inner .0) in
       let one : says s line ≡ said t line =
       meets .answers s (a .first) w rs (l .bytes) (inner .0)
-      ∙ ap₂ (λ (x : Shared) (e : Word). answered (w .enqs) x e (judged (x .model) (lineIn (l .bytes)))) (a .shared) (a .error)
+      ∙ ap₂ (λ (x : Instrument) (e : Word). answered (w .enqs) x e (judged (x .model) (lineIn (l .bytes)))) (a .instrument) (a .error)
       ∙ sym (bytes-meet .answers t (a .second) w rt (l .bytes) (inner .0)) in
       let next : Alike (becomes s line) (after t line) = record {
         first = meets .keeps s (a .first) line .0;
         second = bytes-meet .keeps t (a .second) line .0;
-        shared = ours .shared ∙ ap (λ (x : Shared). heard x (judged (x .model) (lineIn (l .bytes)))) (a .shared) ∙ sym (theirs .shared);
-        error = ours .error ∙ ap₂ (λ (x : Shared) (e : Word). errorLeft (w .enqs) e (judged (x .model) (lineIn (l .bytes)))) (a .shared) (a .error) ∙ sym (theirs .error);
+        instrument = ours .instrument ∙ ap (λ (x : Instrument). applied x (judged (x .model) (lineIn (l .bytes)))) (a .instrument) ∙ sym (theirs .instrument);
+        error = ours .error ∙ ap₂ (λ (x : Instrument) (e : Word). errorLeft (w .enqs) e (judged (x .model) (lineIn (l .bytes)))) (a .instrument) (a .error) ∙ sym (theirs .error);
         emptied = ours .empty;
         empty = theirs .empty;
       } in
@@ -77,4 +77,4 @@ module _ (says : Says) (becomes : Becomes) (meets : Meets says becomes) where
   -- whatever program it is
   pub conversations-agree : (s : State) → Sound s → isEmpty (s .port) ≡ true → (ls : List Spoken) → Each (λ (l : Spoken). Each Inner (l .bytes)) ls
       → says s (conversation ls) ≡ said s (conversation ls)
-  conversations-agree s k e ls inner = agreeing ls inner s s (record { first = k; second = k; shared = refl; error = refl; emptied = e; empty = e })
+  conversations-agree s k e ls inner = agreeing ls inner s s (record { first = k; second = k; instrument = refl; error = refl; emptied = e; empty = e })

@@ -22,21 +22,21 @@ use Rattle.lines.specs.declared.verdict.Verdict.{Verdict}
 use Rattle.lines.specs.declared.verdict.Verdict.the-variants.{Asks, Writes, Refused}
 use Rattle.ports.specs.Line.{held}
 use Rattle.ports.specs.declared.Event.{Event}
-use Rattle.ports.proofs.Kept.{heard-event}
-use Rattle.shared.specs.Events.{taken as readingTaken, heard}
-use Rattle.shared.specs.Limits.{serialWithin}
-use Rattle.shared.specs.declared.Shared.{Shared}
+use Rattle.ports.proofs.PortLimits.{heard-event}
+use Rattle.instrument.specs.Events.{measured, applied}
+use Rattle.instrument.specs.Limits.{serialWithin}
+use Rattle.instrument.specs.declared.Instrument.{Instrument}
 use Rattle.tpg.specs.Answers.{number, answer, handed, leastOutput}
 use Rattle.tpg.specs.States.{stateWithin, freshBox, cycled, Sound}
 use Rattle.tpg.specs.Steps.{lineText, eventText, acted, next, sent, after, over}
-use Rattle.tpg.specs.Calls.{made, freshCall, admits, turnedAway, roomed, roomedBytes, byteTaken, takenBytes, hosted, hostText, counted, tickText, afterTicks, ticksText, allCounted, isChannel, read, readingCall, cycleCall}
+use Rattle.tpg.specs.Calls.{made, freshCall, admits, turnedAway, roomed, roomedBytes, byteTaken, takenBytes, hosted, hostText, counted, tickText, afterTicks, ticksText, allCounted, isChannel, withReading, readingCall, cycleCall}
 use Rattle.tpg.specs.declared.State.{State}
 use Rattle.tpg.specs.declared.answers.Outcome.{Outcome}
 use Rattle.tpg.proofs.Deciding.{byte-hosted}
 use Rattle.tpg.proofs.Refusals.{roomed-back, reading-back, cycle-back, untouched}
-use Rattle.tpg.proofs.Kept as kept
-use Rattle.tpg.proofs.Kept.{after-model}
-use Rattle.demands.specs.Calls.{Call, byte, host, reading, tick, ticks, cycle, outcome, bytes, Refusal, row, lent, refusals, freshRefusals, firstGiven, afterCalls}
+use Rattle.tpg.proofs.StateLimits as kept
+use Rattle.tpg.proofs.StateLimits.{after-model}
+use Rattle.demands.specs.Calls.{Call, byte, host, reading, tick, ticks, cycle, outcome, callBytes, Refusal, refuses, lent, refusals, freshRefusals, firstGiven, afterCalls}
 use Rattle.demands.specs.Wire.{nakLine, byCr, ended}
 use Rattle.demands.specs.Sheets.{Boxes}
 
@@ -61,7 +61,7 @@ module _ (s : State) where
   roomed-tabled least room o text e count = rw (at-most least room) (by (stateWithin s) (ltb room least))
     where
       by : (within short : Bool)
-          → Tabled (cond (within && not short) o (cond within (handed (answer 3) s) (handed (answer 1) s))) (row 1 (not within) ∷ row 3 short ∷ [])
+          → Tabled (cond (within && not short) o (cond within (handed (answer 3) s) (handed (answer 1) s))) (refuses 1 (not within) ∷ refuses 3 short ∷ [])
           (cond (within && not short) text [])
       by false short = (refl, refl)
       by true true = (refl, refl)
@@ -69,11 +69,11 @@ module _ (s : State) where
 
   reading-tabled : (channel : ℕ) (r : Reading) → Tabled (readingCall s channel r) (refusals s (reading channel r)) []
   unfolding readingCall
-  reading-tabled channel r = by (stateWithin s) (isChannel (s .shared .model) channel) (withinLimits r)
+  reading-tabled channel r = by (stateWithin s) (isChannel (s .instrument .model) channel) (withinLimits r)
     where
       by : (a b c : Bool)
-          → Tabled (cond a (cond b (cond c (handed (answer 0) (read s (channel - 1) r)) (handed (answer 5) s)) (handed (answer 4) s)) (handed (answer 1) s))
-          (row 1 (not a) ∷ row 4 (not b) ∷ row 5 (not c) ∷ []) []
+          → Tabled (cond a (cond b (cond c (handed (answer 0) (withReading s (channel - 1) r)) (handed (answer 5) s)) (handed (answer 4) s)) (handed (answer 1) s))
+          (refuses 1 (not a) ∷ refuses 4 (not b) ∷ refuses 5 (not c) ∷ []) []
       by false b c = (refl, refl)
       by true false c = (refl, refl)
       by true true false = (refl, refl)
@@ -83,22 +83,22 @@ module _ (s : State) where
   unfolding cycleCall
   cycle-tabled = by (stateWithin s)
     where
-      by : (a : Bool) → Tabled (cond a (handed (answer 0) (cycled s)) (handed (answer 1) s)) (row 1 (not a) ∷ []) []
+      by : (a : Bool) → Tabled (cond a (handed (answer 0) (cycled s)) (handed (answer 1) s)) (refuses 1 (not a) ∷ []) []
       by false = (refl, refl)
       by true = (refl, refl)
 
-  tabled : (c : Call) → Tabled (outcome s c) (refusals s c) (bytes s c)
+  in-table : (c : Call) → Tabled (outcome s c) (refusals s c) (callBytes s c)
   unfolding byteTaken hosted counted
-  tabled (byte b room) = roomed-tabled leastOutput room (byteTaken s b) (sent s b) refl refl
-  tabled (host input room) = roomed-tabled leastOutput room (hosted s input room) (hostText s input room) refl refl
-  tabled (reading channel r) = reading-tabled channel r
-  tabled (tick room) = roomed-tabled leastOutput room (counted s) (tickText s) refl refl
-  tabled (ticks n room) = roomed-tabled (leastOutput * n) room (allCounted s n) (ticksText s n) refl refl
-  tabled cycle = cycle-tabled
+  in-table (byte b room) = roomed-tabled leastOutput room (byteTaken s b) (sent s b) refl refl
+  in-table (host input room) = roomed-tabled leastOutput room (hosted s input room) (hostText s input room) refl refl
+  in-table (reading channel r) = reading-tabled channel r
+  in-table (tick room) = roomed-tabled leastOutput room (counted s) (tickText s) refl refl
+  in-table (ticks n room) = roomed-tabled (leastOutput * n) room (allCounted s n) (ticksText s n) refl refl
+  in-table cycle = cycle-tabled
 
 -- every call answers with the number of the table, "Tested in the order 1 to 5"
 pub table-holds : (s : State) (c : Call) → number (outcome s c .answer) ≡ firstGiven (refusals s c)
-table-holds s c = tabled s c .0
+table-holds s c = in-table s c .0
 
 made-number : (model : Model) (serial : ℕ) → number (made (One model) serial .answer) ≡ cond (ltb 99999999 serial) 2 0
 made-number model serial = rw (at-most serial 99999999) (by (ltb 99999999 serial))
@@ -112,7 +112,7 @@ pub fresh-holds : (n serial : ℕ) → number (freshCall n serial .answer) ≡ f
 unfolding freshCall
 fresh-holds n serial = by (eqb n 361) (eqb n 362)
   where
-    by : (a b : Bool) → number (made (cond a (One Tpg361) (cond b (One Tpg362) NoModel)) serial .answer) ≡ firstGiven (row 2 (not (a || b) || ltb 99999999 serial) ∷ [])
+    by : (a b : Bool) → number (made (cond a (One Tpg361) (cond b (One Tpg362) NoModel)) serial .answer) ≡ firstGiven (refuses 2 (not (a || b) || ltb 99999999 serial) ∷ [])
     by true b = made-number Tpg361 serial
     by false true = made-number Tpg362 serial
     by false false = refl
@@ -131,7 +131,7 @@ fresh-refused n serial = by (modelOf n)
 -- ---- what a refused call leaves alone, and what an accepted one writes
 
 -- a refused call hands the state back, and sends nothing
-back : (s : State) (c : Call) → number (outcome s c .answer) ≢ 0 → (outcome s c ≡ handed (outcome s c .answer) s) × (bytes s c ≡ [])
+back : (s : State) (c : Call) → number (outcome s c .answer) ≢ 0 → (outcome s c ≡ handed (outcome s c .answer) s) × (callBytes s c ≡ [])
 unfolding byteTaken hosted counted
 back s (byte b room) = roomed-back s leastOutput room (byteTaken s b) (sent s b) refl
 back s (host input room) = roomed-back s leastOutput room (hosted s input room) (hostText s input room) refl
@@ -142,35 +142,35 @@ back s cycle = λ given. (cycle-back s given, refl)
 
 -- "that state, counts 0", and "A refusal writes nothing into the output"
 pub call-refused : (s : State) (c : Call) (out : List ℕ) → number (outcome s c .answer) ≢ 0
-    → (outcome s c ≡ handed (outcome s c .answer) s) × (over (bytes s c) out ≡ out)
+    → (outcome s c ≡ handed (outcome s c .answer) s) × (over (callBytes s c) out ≡ out)
 call-refused s c out given = let b = back s c given in (b .0, rw (b .1) (untouched out))
 
 -- the bytes that a call counts as written are those that it sends
-pub call-writes : (s : State) (c : Call) → outcome s c .written ≡ length (bytes s c)
-call-writes s c = tabled s c .1
+pub call-writes : (s : State) (c : Call) → outcome s c .written ≡ length (callBytes s c)
+call-writes s c = in-table s c .1
 
 -- "an accepted call writes only the bytes it counts": behind them the output is as it was
-pub call-beyond : (s : State) (c : Call) (out : List ℕ) → drop (outcome s c .written) (over (bytes s c) out) ≡ drop (outcome s c .written) out
+pub call-beyond : (s : State) (c : Call) (out : List ℕ) → drop (outcome s c .written) (over (callBytes s c) out) ≡ drop (outcome s c .written) out
 unfolding over
-call-beyond s c out = rw (call-writes s c) (drop-append-seam (bytes s c) (drop (length (bytes s c)) out))
+call-beyond s c out = rw (call-writes s c) (drop-append-seam (callBytes s c) (drop (length (callBytes s c)) out))
 
 -- ---- what a refused line leaves alone
 
 -- a line that is answered NAK changes nothing
-nak-keeps : (s : Shared) (v : Verdict) → lineText v ≡ nakLine → heard s v ≡ s
+nak-keeps : (s : Instrument) (v : Verdict) → lineText v ≡ nakLine → applied s v ≡ s
 nak-keeps s (Asks m) e = refl
 nak-keeps s (Writes m r) e = never (cc)
 nak-keeps s (Refused x) e = refl
 
 -- every byte but the CR of an accepted line leaves settings, saved set, readings and switches as they were
-pub byte-keeps : (s : State) (b : ℕ) → (b ≡ 13 → sent s b ≡ nakLine) → next s b .shared ≡ s .shared
+pub byte-keeps : (s : State) (b : ℕ) → (b ≡ 13 → sent s b ≡ nakLine) → next s b .instrument ≡ s .instrument
 unfolding next sent eventText
 byte-keeps s b =
-    heard-event (λ (e : Event). (b ≡ 13 → eventText (s .shared) e ≡ nakLine) → acted (s .shared) e ≡ s .shared) (s .shared .model) (s .port) b
-    (λ _. refl) (λ byCr refused. nak-keeps (s .shared) (judged (s .shared .model) (held (s .port))) (refused byCr)) (λ _. refl) (λ m _ _. refl)
+    heard-event (λ (e : Event). (b ≡ 13 → eventText (s .instrument) e ≡ nakLine) → acted (s .instrument) e ≡ s .instrument) (s .instrument .model) (s .port) b
+    (λ _. refl) (λ byCr refused. nak-keeps (s .instrument) (judged (s .instrument .model) (held (s .port))) (refused byCr)) (λ _. refl) (λ m _ _. refl)
 
 -- "A refused line leaves settings, saved set and readings as they were", over all its bytes
-pub refused-line : (s : State) (l : List ℕ) → Each (λ b. b ≢ 13) l → sent (after s l) 13 ≡ nakLine → after s (ended byCr l) .shared ≡ s .shared
+pub refused-line : (s : State) (l : List ℕ) → Each (λ b. b ≢ 13) l → sent (after s l) 13 ≡ nakLine → after s (ended byCr l) .instrument ≡ s .instrument
 unfolding after
 refused-line s [] others refused = byte-keeps s 13 (λ _. refused)
 refused-line s (b ∷ bs) others refused = refused-line (next s b) bs (others .1) refused ∙ byte-keeps s b (λ byCr. absurd (others .0 byCr))
@@ -198,7 +198,7 @@ history-sound n serial cs = calls-sound cs (freshCall n serial .state) (kept.fre
 
 module _ (s : State) where
   abbrev SameModel : Outcome → Type 0
-  SameModel o = o .state .shared .model ≡ s .shared .model
+  SameModel o = o .state .instrument .model ≡ s .instrument .model
 
   roomed-model : (least room : ℕ) (o : Outcome) → SameModel o → SameModel (roomed s least room o)
   unfolding roomed turnedAway
@@ -207,22 +207,22 @@ module _ (s : State) where
 
   -- a reading, refused or not, leaves the port and the model alone
   pub reading-keeps : (channel : ℕ) (r : Reading) → (readingCall s channel r .state .port ≡ s .port) × SameModel (readingCall s channel r)
-  unfolding readingCall readingTaken
-  reading-keeps channel r = by (stateWithin s) (isChannel (s .shared .model) channel) (withinLimits r)
+  unfolding readingCall measured
+  reading-keeps channel r = by (stateWithin s) (isChannel (s .instrument .model) channel) (withinLimits r)
     where
-      by : (a b c : Bool) → let o = cond a (cond b (cond c (handed (answer 0) (read s (channel - 1) r)) (handed (answer 5) s)) (handed (answer 4) s)) (handed (answer 1) s) in
+      by : (a b c : Bool) → let o = cond a (cond b (cond c (handed (answer 0) (withReading s (channel - 1) r)) (handed (answer 5) s)) (handed (answer 4) s)) (handed (answer 1) s) in
           (o .state .port ≡ s .port) × SameModel o
       by false b c = (refl, refl)
       by true false c = (refl, refl)
       by true true false = (refl, refl)
       by true true true = (refl, refl)
 
-ticks-model : (n : ℕ) (s : State) → afterTicks s n .shared .model ≡ s .shared .model
+ticks-model : (n : ℕ) (s : State) → afterTicks s n .instrument .model ≡ s .instrument .model
 unfolding afterTicks counted
 ticks-model zero s = refl
 ticks-model (suc n) s = ticks-model n (counted s .state)
 
-call-model : (s : State) (c : Call) → outcome s c .state .shared .model ≡ s .shared .model
+call-model : (s : State) (c : Call) → outcome s c .state .instrument .model ≡ s .instrument .model
 unfolding byteTaken hosted counted cycleCall after
 call-model s (byte b room) = roomed-model s leastOutput room (byteTaken s b) (after-model (b ∷ []) s)
 call-model s (host input room) = roomed-model s leastOutput room (hosted s input room) (after-model (takenBytes s input room) s)
@@ -231,7 +231,7 @@ call-model s (tick room) = roomed-model s leastOutput room (counted s) refl
 call-model s (ticks n room) = roomed-model s (leastOutput * n) room (allCounted s n) (ticks-model n s)
 call-model s cycle = cond-cases (SameModel s) (stateWithin s) (handed (answer 0) (cycled s)) (handed (answer 1) s) (λ _. refl) (λ _. refl)
 
-calls-model : (cs : List Call) (s : State) → afterCalls s cs .shared .model ≡ s .shared .model
+calls-model : (cs : List Call) (s : State) → afterCalls s cs .instrument .model ≡ s .instrument .model
 calls-model [] s = refl
 calls-model (c ∷ cs) s = calls-model cs (outcome s c .state) ∙ call-model s c
 

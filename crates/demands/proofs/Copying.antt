@@ -14,13 +14,13 @@ use Rattle.settings.specs.Models.{channels}
 use Rattle.settings.specs.Mnemonics.{sheet, name}
 use Rattle.settings.specs.Rows.{cells}
 use Rattle.ground.specs.Members.{Each}
-use Rattle.ground.proofs.Cases.{ranged}
+use Rattle.ground.proofs.Cases.{in-range}
 use Rattle.settings.specs.Limits.{within}
 use Rattle.settings.specs.declared.model.Model.{Model}
 use Rattle.settings.specs.declared.model.Model.the-variants.{Tpg361, Tpg362}
 use Rattle.settings.specs.declared.mnemonic.Setting.{Setting}
 use Rattle.settings.specs.declared.mnemonic.Mnemonic.{Mnemonic}
-use Rattle.settings.specs.declared.mnemonic.Mnemonic.the-variants.{Setting as Of}
+use Rattle.settings.specs.declared.mnemonic.Mnemonic.the-variants.{OfSetting}
 use Rattle.settings.specs.declared.rows.Row.{Row}
 use Rattle.settings.specs.declared.Settings.{Settings}
 use Rattle.ground.proofs.Members.{each-map, each-both, each-take}
@@ -28,7 +28,7 @@ use Rattle.settings.proofs.Sheets.{sheet-each}
 use Rattle.lines.specs.Judging.{rowOf, judged, effect}
 use Rattle.lines.specs.Replies.{settingText}
 use Rattle.text.specs.Control.{crLf}
-use Rattle.lines.specs.Sheets.{lineOf, after as afterLines}
+use Rattle.lines.specs.Sheets.{sheetLine, settingsAfter}
 use Rattle.lines.specs.declared.word.Word.{Word}
 use Rattle.lines.specs.declared.verdict.Verdict.{Verdict}
 use Rattle.lines.specs.declared.verdict.Verdict.the-variants.{Asks, Writes, Refused}
@@ -36,51 +36,51 @@ use Rattle.lines.proofs.Accepted.{Spelt, all-spelt, sheet-accepted}
 use Rattle.lines.proofs.Copy.{cut-named, cut-others, whole-copy, equal-sheets}
 use Rattle.ports.specs.Limits.{portWithin}
 use Rattle.ports.specs.declared.Selection.{Selection}
-use Rattle.shared.specs.Events.{written, heard}
-use Rattle.shared.specs.Limits.{sharedWithin}
-use Rattle.shared.specs.Replies.{replyText}
-use Rattle.shared.specs.declared.Shared.{Shared}
-use Rattle.shared.proofs.Kept as shared
+use Rattle.instrument.specs.Events.{written, applied}
+use Rattle.instrument.specs.Limits.{instrumentWithin}
+use Rattle.instrument.specs.Replies.{replyText}
+use Rattle.instrument.specs.declared.Instrument.{Instrument}
+use Rattle.instrument.proofs.InstrumentLimits as instrument
 use Rattle.tpg.specs.States.{stateWithin, Sound}
 use Rattle.tpg.specs.Steps.{next, after, said}
 use Rattle.tpg.specs.declared.State.{State}
-use Rattle.tpg.proofs.Runs.{after-append, said-append}
-use Rattle.tpg.proofs.Kept.{heard-model, after-sound, after-model}
+use Rattle.tpg.proofs.HostRun.{after-append, said-append}
+use Rattle.tpg.proofs.StateLimits.{heard-model, after-sound, after-model}
 use Rattle.demands.specs.Wire.{ackLine, End, ended, anew, enquiries, asOften}
-use Rattle.demands.specs.Sheets.{boxModel, boxSettings, Boxes, questions, sheetAsked, replies, firstLine, behindLine, copyLines, copyOf, linesSent, acks, SheetRead, SheetCopied, SheetCut, SheetsDecide}
+use Rattle.demands.specs.Sheets.{boxModel, boxSettings, Boxes, questions, sheetAsked, sheetReplies, firstLine, behindLine, copyLines, copyOf, linesSent, acks, SheetRead, SheetCopied, SheetCut, SheetsDecide}
 use Rattle.demands.proofs.Ending.{Line}
-use Rattle.demands.proofs.Typing.{line-judged, line-enquired, line-left, anew-line, anew-shared, anew-said, anew-after}
+use Rattle.demands.proofs.Typing.{line-judged, line-enquired, line-left, anew-line, anew-instrument, anew-said, anew-after}
 use Rattle.demands.proofs.Spelling.{Character, Typeable, typeable-inner, typeable-line, Short, names-short, name-typeable, setting-characters, line-typeable, name-judged}
 
 -- ---- what a sheet needs of its mnemonics
 
 -- its name can be typed, and asks for it
 record Asked (model : Model) (x : Setting) : Type 0 where
-  short : Short (name (Of x))
-  asks : judged model (name (Of x)) ≡ Asks (Of x)
+  short : Short (name (OfSetting x))
+  asks : judged model (name (OfSetting x)) ≡ Asks (OfSetting x)
 
 -- ---- the inquiries
 
-module _ (e : End) (shared : Shared) where
-  inquired : (xs : List Setting) (s : State) {selection : Selection} {error : Word} → s .shared ≡ shared → Line (s .port) [] selection error → Each (Asked (shared .model)) xs
-      → (said s (questions e xs) ≡ replies (shared .model) (shared .settings) xs)
-      × (after s (questions e xs) .shared ≡ shared)
+module _ (e : End) (instrument : Instrument) where
+  inquired : (xs : List Setting) (s : State) {selection : Selection} {error : Word} → s .instrument ≡ instrument → Line (s .port) [] selection error → Each (Asked (instrument .model)) xs
+      → (said s (questions e xs) ≡ sheetReplies (instrument .model) (instrument .settings) xs)
+      × (after s (questions e xs) .instrument ≡ instrument)
   unfolding flatMap after said replyText asOften
   inquired [] s same empty h = (refl, same)
   inquired (x ∷ xs) s {error = error} same empty h =
-      let bytes = ended e (name (Of x)) ++ enquiries 1 in
+      let bytes = ended e (name (OfSetting x)) ++ enquiries 1 in
       let rest = questions e xs in
-      let verdict : judged (s .shared .model) (name (Of x)) ≡ Asks (Of x) = ap (λ (t : Shared). judged (t .model) (name (Of x))) same ∙ h .0 .asks in
-      let t = name-typeable (Of x) (h .0 .short) in
-      let asks = ap (judged (s .shared .model)) (typeable-line (name (Of x)) t) ∙ verdict in
-      let inner = typeable-inner (name (Of x)) t in
-      let one = line-left s empty (name (Of x)) inner (Asks (Of x)) asks e 1 in
+      let verdict : judged (s .instrument .model) (name (OfSetting x)) ≡ Asks (OfSetting x) = ap (λ (t : Instrument). judged (t .model) (name (OfSetting x))) same ∙ h .0 .asks in
+      let t = name-typeable (OfSetting x) (h .0 .short) in
+      let asks = ap (judged (s .instrument .model)) (typeable-line (name (OfSetting x)) t) ∙ verdict in
+      let inner = typeable-inner (name (OfSetting x)) t in
+      let one = line-left s empty (name (OfSetting x)) inner (Asks (OfSetting x)) asks e 1 in
       let all = inquired xs (after s bytes) (one .0 ∙ same) (one .1) (h .1) in
-      let text : said s bytes ≡ ackLine ++ replyText shared error (Of x) =
-      line-enquired s empty (name (Of x)) inner (Asks (Of x)) asks e 1 ∙ ap (λ (t : List ℕ). ackLine ++ t) (append-nil (replyText (s .shared) error (Of x)))
-      ∙ ap (λ (t : Shared). ackLine ++ replyText t error (Of x)) same in (
+      let text : said s bytes ≡ ackLine ++ replyText instrument error (OfSetting x) =
+      line-enquired s empty (name (OfSetting x)) inner (Asks (OfSetting x)) asks e 1 ∙ ap (λ (t : List ℕ). ackLine ++ t) (append-nil (replyText (s .instrument) error (OfSetting x)))
+      ∙ ap (λ (t : Instrument). ackLine ++ replyText t error (OfSetting x)) same in (
         said-append bytes rest s ∙ ap₂ (λ (t u : List ℕ). t ++ u) text (all .0),
-        ap (λ (t : State). t .shared) (after-append bytes rest s) ∙ all .1,
+        ap (λ (t : State). t .instrument) (after-append bytes rest s) ∙ all .1,
       )
 
 -- ---- the lines that are made of the replies
@@ -97,15 +97,15 @@ behind-line t rest p =
     ap (λ (l : List ℕ). drop (length l + 2) all) (first-line t rest p) ∙ sym (drop-drop 2 (length t) all) ∙ ap (drop 2) (drop-append-seam t (13 ∷ 10 ∷ rest))
 
 pub no-cr : (l : List ℕ) → Each Character l → Each (λ (c : ℕ). c ≢ 13) l
-no-cr = each-map Character (λ (c : ℕ). c ≢ 13) (λ c h e. omega (arith, ranged 33 126 c h .0))
+no-cr = each-map Character (λ (c : ℕ). c ≢ 13) (λ c h e. omega (arith, in-range 33 126 c h .0))
 
 -- from the replies of a box come the lines of its settings
-lines-copied : (model : Model) (a : Settings) (xs : List Setting) → copyLines xs (replies model a xs) ≡ map (lineOf model a) xs
+lines-copied : (model : Model) (a : Settings) (xs : List Setting) → copyLines xs (sheetReplies model a xs) ≡ map (sheetLine model a) xs
 unfolding copyLines flatMap until
 lines-copied model a [] = refl
 lines-copied model a (x ∷ xs) =
     let t = settingText model a x in
-    let rest = replies model a xs in
+    let rest = sheetReplies model a xs in
     let plain = no-cr t (setting-characters model a x) in
     rw (append-assoc t crLf rest, behind-line t rest plain, first-line t rest plain, lines-copied model a xs)
 
@@ -113,12 +113,12 @@ lines-copied model a (x ∷ xs) =
 
 -- what the lines of a's sheet need: they can be typed, and are accepted by every box of the model
 record Sent (model : Model) (a : Settings) (x : Setting) : Type 0 where
-  typeable : Typeable (lineOf model a x)
+  typeable : Typeable (sheetLine model a x)
   row : Row
-  writes : judged model (lineOf model a x) ≡ Writes (Of x) row
+  writes : judged model (sheetLine model a x) ≡ Writes (OfSetting x) row
 
 -- a line does to the settings what the lines' own law says
-heard-settings : (s : Shared) (v : Verdict) → heard s v .settings ≡ effect (s .model) (s .settings) v
+heard-settings : (s : Instrument) (v : Verdict) → applied s v .settings ≡ effect (s .model) (s .settings) v
 unfolding written
 heard-settings s (Asks m) = refl
 heard-settings s (Writes m r) = refl
@@ -127,35 +127,35 @@ heard-settings s (Refused x) = refl
 module _ (f : End) (model : Model) (a : Settings) where
   -- the bytes of a's lines for some settings
   abbrev orders : List Setting → List ℕ
-  orders xs = flatMap (ended f) (map (lineOf model a) xs)
+  orders xs = flatMap (ended f) (map (sheetLine model a) xs)
 
   -- what they make of a box: all are accepted, and its settings are those after the lines
   record Made (xs : List Setting) (s : State) : Type 0 where
     accepted : said s (orders xs) ≡ acks xs
-    settings : boxSettings (after s (orders xs)) ≡ afterLines model (boxSettings s) (map (lineOf model a) xs)
-    saved : after s (orders xs) .shared .saved ≡ s .shared .saved
-    readings : after s (orders xs) .shared .readings ≡ s .shared .readings
+    settings : boxSettings (after s (orders xs)) ≡ settingsAfter model (boxSettings s) (map (sheetLine model a) xs)
+    saved : after s (orders xs) .instrument .saved ≡ s .instrument .saved
+    readings : after s (orders xs) .instrument .readings ≡ s .instrument .readings
 
   commanded : (xs : List Setting) (s : State) {selection : Selection} {error : Word} → boxModel s ≡ model → Line (s .port) [] selection error → Each (Sent model a) xs → Made xs s
   unfolding flatMap after said written
   commanded [] s same empty h = record { accepted = refl; settings = refl; saved = refl; readings = refl }
   commanded (x ∷ xs) s same empty h =
-      let line = lineOf model a x in
+      let line = sheetLine model a x in
       let bytes = ended f line in
       let rest = orders xs in
-      let v = Writes (Of x) (h .0 .row) in
+      let v = Writes (OfSetting x) (h .0 .row) in
       let verdict : judged (boxModel s) line ≡ v = ap (λ (m : Model). judged m line) same ∙ h .0 .writes in
       let t = h .0 .typeable in
       let one = line-judged s empty line (typeable-inner line t) v (ap (judged (boxModel s)) (typeable-line line t) ∙ verdict) f in
       let now = after s bytes in
-      let all = commanded xs now (ap (λ (t : Shared). t .model) (one .shared) ∙ heard-model (s .shared) v ∙ same) (one .line) (h .1) in
+      let all = commanded xs now (ap (λ (t : Instrument). t .model) (one .instrument) ∙ heard-model (s .instrument) v ∙ same) (one .line) (h .1) in
       let set : boxSettings now ≡ effect model (boxSettings s) (judged model line) =
-      ap (λ (t : Shared). t .settings) (one .shared) ∙ heard-settings (s .shared) v ∙ ap₂ (λ (m : Model) (u : Verdict). effect m (boxSettings s) u) same (sym (h .0 .writes)) in
+      ap (λ (t : Instrument). t .settings) (one .instrument) ∙ heard-settings (s .instrument) v ∙ ap₂ (λ (m : Model) (u : Verdict). effect m (boxSettings s) u) same (sym (h .0 .writes)) in
       record {
         accepted = said-append bytes rest s ∙ ap₂ (λ (t u : List ℕ). t ++ u) (one .reply) (all .accepted);
-        settings = ap boxSettings (after-append bytes rest s) ∙ all .settings ∙ ap (λ (t : Settings). afterLines model t (map (lineOf model a) xs)) set;
-        saved = ap (λ (t : State). t .shared .saved) (after-append bytes rest s) ∙ all .saved ∙ ap (λ (t : Shared). t .saved) (one .shared);
-        readings = ap (λ (t : State). t .shared .readings) (after-append bytes rest s) ∙ all .readings ∙ ap (λ (t : Shared). t .readings) (one .shared);
+        settings = ap boxSettings (after-append bytes rest s) ∙ all .settings ∙ ap (λ (t : Settings). settingsAfter model t (map (sheetLine model a) xs)) set;
+        saved = ap (λ (t : State). t .instrument .saved) (after-append bytes rest s) ∙ all .saved ∙ ap (λ (t : Instrument). t .saved) (one .instrument);
+        readings = ap (λ (t : State). t .instrument .readings) (after-append bytes rest s) ∙ all .readings ∙ ap (λ (t : Instrument). t .readings) (one .instrument);
       }
 
 -- ---- the sheet of a model
@@ -164,23 +164,23 @@ pub some-channel : (model : Model) → 0 < channels model
 some-channel Tpg361 = omega arith
 some-channel Tpg362 = omega arith
 
-name-asks : (model : Model) (x : Setting) → Spelt model (Of x) → judged model (name (Of x)) ≡ Asks (Of x)
-name-asks model x sp = name-judged model (Of x) sp ∙ rw (lt-ltb 0 (channels model) (some-channel model))
+name-asks : (model : Model) (x : Setting) → Spelt model (OfSetting x) → judged model (name (OfSetting x)) ≡ Asks (OfSetting x)
+name-asks model x sp = name-judged model (OfSetting x) sp ∙ rw (lt-ltb 0 (channels model) (some-channel model))
 
 sheet-asked : (model : Model) → Each (Asked model) (sheet model)
 sheet-asked model =
-    each-both (λ (x : Setting). Spelt model (Of x)) (λ (x : Setting). Short (name (Of x))) (Asked model)
+    each-both (λ (x : Setting). Spelt model (OfSetting x)) (λ (x : Setting). Short (name (OfSetting x))) (Asked model)
     (λ x sp short. record { short = short; asks = name-asks model x sp }) (sheet model)
     (sheet-each (Spelt model) model (all-spelt model)) (sheet-each (λ (m : Mnemonic). Short (name m)) model (names-short model))
 
 settings-within : (s : State) → Sound s → within (boxModel s) (boxSettings s) ≡ true
 unfolding stateWithin
-settings-within s k = shared.parts (s .shared) (and-eq-true-iff (sharedWithin (s .shared)) (portWithin (boxModel s) (s .port)) .0 (k .within) .0) .settings
+settings-within s k = instrument.parts (s .instrument) (and-eq-true-iff (instrumentWithin (s .instrument)) (portWithin (boxModel s) (s .port)) .0 (k .within) .0) .settings
 
 sheet-sent : (a : State) → Sound a → Each (Sent (boxModel a) (boxSettings a)) (sheet (boxModel a))
 sheet-sent a k =
     let model = boxModel a in
-    each-both (λ (x : Setting). Short (name (Of x))) _ (Sent model (boxSettings a))
+    each-both (λ (x : Setting). Short (name (OfSetting x))) _ (Sent model (boxSettings a))
     (λ x short e. record { typeable = line-typeable model (boxSettings a) x short; row = rowOf (cells model (boxSettings a) x); writes = e }) (sheet model)
     (sheet-each (λ (m : Mnemonic). Short (name m)) model (names-short model)) (sheet-accepted model (boxSettings a) (settings-within a k))
 
@@ -188,12 +188,12 @@ sheet-sent a k =
 
 pub sheet-read : SheetRead said after
 sheet-read a k e =
-    let all = inquired e (a .shared) (sheet (boxModel a)) (next a 3) (anew-shared a) (anew-line a) (sheet-asked (boxModel a)) in
-    (anew-said a _ ∙ all .0, ap boxSettings (anew-after a _) ∙ ap (λ (t : Shared). t .settings) (all .1))
+    let all = inquired e (a .instrument) (sheet (boxModel a)) (next a 3) (anew-instrument a) (anew-line a) (sheet-asked (boxModel a)) in
+    (anew-said a _ ∙ all .0, ap boxSettings (anew-after a _) ∙ ap (λ (t : Instrument). t .settings) (all .1))
 
 -- the lines of a box, for some settings
 abbrev linesFor : State → List Setting → List (List ℕ)
-linesFor a xs = map (lineOf (boxModel a) (boxSettings a)) xs
+linesFor a xs = map (sheetLine (boxModel a) (boxSettings a)) xs
 
 map-take : {A B : Type 0} (f : A → B) (n : ℕ) (xs : List A) → take n (map f xs) ≡ map f (take n xs)
 map-take f zero xs = refl
@@ -205,27 +205,27 @@ copy-lines : (a : State) → Sound a → (e : End) → copyOf said e a ≡ lines
 copy-lines a k e = ap (copyLines (sheet (boxModel a))) (sheet-read a k e .0) ∙ lines-copied (boxModel a) (boxSettings a) (sheet (boxModel a))
 
 copy-cut : (a : State) → Sound a → (e : End) (n : ℕ) → take n (copyOf said e a) ≡ linesFor a (take n (sheet (boxModel a)))
-copy-cut a k e n = ap (take n) (copy-lines a k e) ∙ map-take (lineOf (boxModel a) (boxSettings a)) n (sheet (boxModel a))
+copy-cut a k e n = ap (take n) (copy-lines a k e) ∙ map-take (sheetLine (boxModel a) (boxSettings a)) n (sheet (boxModel a))
 
 module _ (a b : State) (both : Boxes a b) (f : End) where
   made : (xs : List Setting) → Each (Sent (boxModel a) (boxSettings a)) xs → Made f (boxModel a) (boxSettings a) xs (next b 3)
-  made xs = commanded f (boxModel a) (boxSettings a) xs (next b 3) (ap (λ (t : Shared). t .model) (anew-shared b) ∙ sym (both .model)) (anew-line b)
+  made xs = commanded f (boxModel a) (boxSettings a) xs (next b 3) (ap (λ (t : Instrument). t .model) (anew-instrument b) ∙ sym (both .model)) (anew-line b)
 
   -- the settings after lines of the sheet, and what no line of it changes
   copied : (xs : List Setting) → Each (Sent (boxModel a) (boxSettings a)) xs
-      → boxSettings (after b (linesSent f (linesFor a xs))) ≡ afterLines (boxModel a) (boxSettings b) (linesFor a xs)
+      → boxSettings (after b (linesSent f (linesFor a xs))) ≡ settingsAfter (boxModel a) (boxSettings b) (linesFor a xs)
   copied xs h =
       ap boxSettings (anew-after b _) ∙ made xs h .settings
-      ∙ ap (λ (t : Shared). afterLines (boxModel a) (t .settings) (linesFor a xs)) (anew-shared b)
+      ∙ ap (λ (t : Instrument). settingsAfter (boxModel a) (t .settings) (linesFor a xs)) (anew-instrument b)
 
   -- no line of the sheet touches the saved set or a reading
   pub copy-keeps : (e : End) (n : ℕ) → let c = after b (linesSent f (take n (copyOf said e a))) in
-      (c .shared .saved ≡ b .shared .saved) × (c .shared .readings ≡ b .shared .readings)
+      (c .instrument .saved ≡ b .instrument .saved) × (c .instrument .readings ≡ b .instrument .readings)
   copy-keeps e n =
       let m = made (take n (sheet (boxModel a))) (each-take (Sent (boxModel a) (boxSettings a)) n (sheet (boxModel a)) (sheet-sent a (both .first))) in
       rw (copy-cut a (both .first) e n) (
-        ap (λ (t : State). t .shared .saved) (anew-after b _) ∙ m .saved ∙ ap (λ (t : Shared). t .saved) (anew-shared b),
-        ap (λ (t : State). t .shared .readings) (anew-after b _) ∙ m .readings ∙ ap (λ (t : Shared). t .readings) (anew-shared b),
+        ap (λ (t : State). t .instrument .saved) (anew-after b _) ∙ m .saved ∙ ap (λ (t : Instrument). t .saved) (anew-instrument b),
+        ap (λ (t : State). t .instrument .readings) (anew-after b _) ∙ m .readings ∙ ap (λ (t : Instrument). t .readings) (anew-instrument b),
       )
 
   -- the second box within the limits of the first one's model
@@ -240,14 +240,14 @@ module _ (a b : State) (both : Boxes a b) (f : End) where
       let sent = sheet-sent a (both .first) in (
         anew-said b _ ∙ made (sheet model) sent .accepted,
         copied (sheet model) sent
-            ∙ whole-copy model (boxSettings a) (boxSettings b) (both .first .formed .shared .settings) (both .second .formed .shared .settings)
+            ∙ whole-copy model (boxSettings a) (boxSettings b) (both .first .shaped .instrument .settings) (both .second .shaped .instrument .settings)
             (settings-within a (both .first)) own,
       )
 
 -- boxes of one model with equal settings send the same sheet
 same-sheet : (a c : State) → Boxes a c → boxSettings c ≡ boxSettings a → (e f : End) → said c (sheetAsked e c) ≡ said a (sheetAsked f a)
 same-sheet a c both equal e f =
-    sheet-read c (both .second) e .0 ∙ ap₂ (λ (m : Model) (s : Settings). replies m s (sheet m)) (sym (both .model)) equal ∙ sym (sheet-read a (both .first) f .0)
+    sheet-read c (both .second) e .0 ∙ ap₂ (λ (m : Model) (s : Settings). sheetReplies m s (sheet m)) (sym (both .model)) equal ∙ sym (sheet-read a (both .first) f .0)
 
 -- after bytes a box is still of the model
 sent-boxes : (a b : State) → Boxes a b → (bytes : List ℕ) → Boxes a (after b bytes)
@@ -268,8 +268,8 @@ sheet-cut a b both e f n =
     let model = boxModel a in
     let sent = each-take (Sent model (boxSettings a)) n (sheet model) (sheet-sent a (both .first)) in
     let is = copied a b both f (take n (sheet model)) sent in
-    let sa = both .first .formed .shared .settings in
-    let sb = both .second .formed .shared .settings in
+    let sa = both .first .shaped .instrument .settings in
+    let sb = both .second .shaped .instrument .settings in
     let wa = settings-within a (both .first) in
     rw (copy-cut a (both .first) e n) (
       anew-said b _ ∙ made a b both f (take n (sheet model)) sent .accepted,
@@ -280,27 +280,27 @@ sheet-cut a b both e f n =
 -- ---- a sheet tells the settings
 
 -- each reply ends at its CR, so equal bytes are equal replies
-replies-texts : (model : Model) (a b : Settings) (xs : List Setting) → replies model a xs ≡ replies model b xs → map (settingText model a) xs ≡ map (settingText model b) xs
+replies-texts : (model : Model) (a b : Settings) (xs : List Setting) → sheetReplies model a xs ≡ sheetReplies model b xs → map (settingText model a) xs ≡ map (settingText model b) xs
 unfolding flatMap
 replies-texts model a b [] e = refl
 replies-texts model a b (x ∷ xs) e =
     let t = settingText model a x in
     let u = settingText model b x in
-    let f : t ++ (13 ∷ 10 ∷ replies model a xs) ≡ u ++ (13 ∷ 10 ∷ replies model b xs) =
-    sym (append-assoc t crLf (replies model a xs)) ∙ ap (drop 3) e ∙ append-assoc u crLf (replies model b xs) in
+    let f : t ++ (13 ∷ 10 ∷ sheetReplies model a xs) ≡ u ++ (13 ∷ 10 ∷ sheetReplies model b xs) =
+    sym (append-assoc t crLf (sheetReplies model a xs)) ∙ ap (drop 3) e ∙ append-assoc u crLf (sheetReplies model b xs) in
     let p = no-cr t (setting-characters model a x) in
     let q = no-cr u (setting-characters model b x) in
-    let first : t ≡ u = sym (first-line t (replies model a xs) p) ∙ ap firstLine f ∙ first-line u (replies model b xs) q in
-    let others : replies model a xs ≡ replies model b xs = sym (behind-line t (replies model a xs) p) ∙ ap behindLine f ∙ behind-line u (replies model b xs) q in
+    let first : t ≡ u = sym (first-line t (sheetReplies model a xs) p) ∙ ap firstLine f ∙ first-line u (sheetReplies model b xs) q in
+    let others : sheetReplies model a xs ≡ sheetReplies model b xs = sym (behind-line t (sheetReplies model a xs) p) ∙ ap behindLine f ∙ behind-line u (sheetReplies model b xs) q in
     ap₂ (λ (h : List ℕ) (l : List (List ℕ)). h ∷ l) first (replies-texts model a b xs others)
 
 pub sheets-decide : SheetsDecide said
 sheets-decide a b both e f =
     let model = boxModel a in
     let first = sheet-read a (both .first) e .0 in
-    let second : said b (sheetAsked f b) ≡ replies model (boxSettings b) (sheet model) =
-    sheet-read b (both .second) f .0 ∙ ap (λ (m : Model). replies m (boxSettings b) (sheet m)) (sym (both .model)) in
-    let decide = equal-sheets model (boxSettings a) (boxSettings b) (both .first .formed .shared .settings) (both .second .formed .shared .settings)
+    let second : said b (sheetAsked f b) ≡ sheetReplies model (boxSettings b) (sheet model) =
+    sheet-read b (both .second) f .0 ∙ ap (λ (m : Model). sheetReplies m (boxSettings b) (sheet m)) (sym (both .model)) in
+    let decide = equal-sheets model (boxSettings a) (boxSettings b) (both .first .shaped .instrument .settings) (both .second .shaped .instrument .settings)
     (settings-within a (both .first)) (own a b both f) in (
       (λ same. decide .0 (replies-texts model (boxSettings a) (boxSettings b) (sheet model) (sym first ∙ same ∙ second))),
       (λ same. sym (same-sheet a b both (sym same) f e)),

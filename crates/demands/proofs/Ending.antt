@@ -7,11 +7,11 @@ use lib.ListN.{length, take}
 use lib.Dec.{eqb}
 use Rattle.ground.proofs.Cases.{cond-cases}
 use Rattle.settings.specs.Mnemonics.{hasReply, isErr}
-use Rattle.settings.specs.Rows.{number}
+use Rattle.settings.specs.Rows.{firstNumber}
 use Rattle.settings.specs.declared.model.Model.{Model}
 use Rattle.settings.specs.declared.mnemonic.Query.the-variants.{Sps, Pr, Prx, Tid, Ayt, Err}
 use Rattle.settings.specs.declared.mnemonic.Mnemonic.{Mnemonic}
-use Rattle.settings.specs.declared.mnemonic.Mnemonic.the-variants.{Setting as Of, Cf, Query as Asked, Com, Sav}
+use Rattle.settings.specs.declared.mnemonic.Mnemonic.the-variants.{OfSetting, Cf, OfQuery, Com, Sav}
 use Rattle.settings.specs.declared.rows.Row.{Row}
 use Rattle.lines.specs.Words.{noError, gathered}
 use Rattle.lines.specs.Judging.{judged}
@@ -20,15 +20,15 @@ use Rattle.lines.specs.declared.verdict.Verdict.{Verdict}
 use Rattle.lines.specs.declared.verdict.Verdict.the-variants.{Asks, Writes, Refused}
 use Rattle.ports.specs.Line.{emptied, held, isEmpty}
 use Rattle.ports.specs.Stream.{intervalOf, withStream, begun}
-use Rattle.ports.specs.Hearing.{kindOf, withMark, withChoice, selected, concluded, answered, replied, asked, quiet, byKind, heard as portHeard}
+use Rattle.ports.specs.Hearing.{kindOf, withMark, withChoice, selected, concluded, bySelection, replied, asked, quiet, byKind, heard}
 use Rattle.ports.specs.Walk.{settled}
 use Rattle.ports.specs.declared.Heard.{Heard}
 use Rattle.ports.specs.declared.Port.{Port}
 use Rattle.ports.specs.declared.Selection.{Selection}
-use Rattle.ports.specs.declared.Selection.the-variants.{Nothing, Of as Chosen}
-use Rattle.shared.specs.Events.{heard}
-use Rattle.shared.specs.Replies.{replyText}
-use Rattle.shared.specs.declared.Shared.{Shared}
+use Rattle.ports.specs.declared.Selection.the-variants.{Nothing, Chosen}
+use Rattle.instrument.specs.Events.{applied}
+use Rattle.instrument.specs.Replies.{replyText}
+use Rattle.instrument.specs.declared.Instrument.{Instrument}
 use Rattle.tpg.specs.Steps.{lineText, eventText, acted, next, sent}
 use Rattle.tpg.specs.declared.State.{State}
 use Rattle.demands.specs.Wire.{gathering}
@@ -53,8 +53,8 @@ choice (Writes m r) = selected m
 choice (Refused x) = Nothing
 
 -- another selection and error word beside it
-with-choice : {p : Port} {l : List ℕ} {selection : Selection} {error : Word} → Line p l selection error → (x : Selection) (w v : Word) → w ≡ v → Line (withChoice p x w) l x v
-with-choice h x w v e = record { good = h .good; count = h .count; text = h .text; places = h .places; chosen = refl; word = e }
+line-chosen : {p : Port} {l : List ℕ} {selection : Selection} {error : Word} → Line p l selection error → (x : Selection) (w v : Word) → w ≡ v → Line (withChoice p x w) l x v
+line-chosen h x w v e = record { good = h .good; count = h .count; text = h .text; places = h .places; chosen = refl; word = e }
 
 -- a line that is emptied
 emptied-line : (p : Port) {selection : Selection} {error : Word} → p .selection ≡ selection → p .error ≡ error → Line (emptied p) [] selection error
@@ -70,31 +70,31 @@ streamed-line h interval ticks = record { good = h .good; count = h .count; text
 pub settled-line : {p : Port} {l : List ℕ} {selection : Selection} {error : Word} → Line p l selection error → Line (settled p) l selection error
 settled-line h = streamed-line (marked-line h false) 0 0
 
-begun-line : {p : Port} {l : List ℕ} {selection : Selection} {error : Word} (m : Mnemonic) (r : Row) → Line p l selection error → Line (begun p m r) l selection error
-begun-line (Of x) r h = h
-begun-line (Cf k) r h = h
-begun-line (Asked q) r h = h
-begun-line Com r h = streamed-line h (intervalOf (number r)) 0
-begun-line Sav r h = h
+line-begun : {p : Port} {l : List ℕ} {selection : Selection} {error : Word} (m : Mnemonic) (r : Row) → Line p l selection error → Line (begun p m r) l selection error
+line-begun (OfSetting x) r h = h
+line-begun (Cf k) r h = h
+line-begun (OfQuery q) r h = h
+line-begun Com r h = streamed-line h (intervalOf (firstNumber r)) 0
+line-begun Sav r h = h
 
-concluded-line : {p : Port} {selection : Selection} {error : Word} → Line p [] selection error → (v : Verdict) → Line (concluded p v) [] (choice v) (gathering error v)
+line-concluded : {p : Port} {selection : Selection} {error : Word} → Line p [] selection error → (v : Verdict) → Line (concluded p v) [] (choice v) (gathering error v)
 unfolding concluded
-concluded-line {p} {selection} {error} h (Asks m) = with-choice h (selected m) (p .error) error (h .word)
-concluded-line {p} {selection} {error} h (Writes m r) = begun-line m r (with-choice h (selected m) (p .error) error (h .word))
-concluded-line {p} {selection} {error} h (Refused x) =
-    with-choice h Nothing (gathered (p .error) x) (gathered error x) (ap (λ (w : Word). gathered w x) (h .word))
+line-concluded {p} {selection} {error} h (Asks m) = line-chosen h (selected m) (p .error) error (h .word)
+line-concluded {p} {selection} {error} h (Writes m r) = line-begun m r (line-chosen h (selected m) (p .error) error (h .word))
+line-concluded {p} {selection} {error} h (Refused x) =
+    line-chosen h Nothing (gathered (p .error) x) (gathered error x) (ap (λ (w : Word). gathered w x) (h .word))
 
 -- ---- one byte that is no character: CR, ENQ, ETX, LF
 
 -- straight after a CR or not, it is no LF
-no-lf : (model : Model) (p : Port) (b : ℕ) → eqb b 10 ≡ false → portHeard model p b ≡ byKind model (kindOf b) (settled p) b
-unfolding portHeard
+no-lf : (model : Model) (p : Port) (b : ℕ) → eqb b 10 ≡ false → heard model p b ≡ byKind model (kindOf b) (settled p) b
+unfolding heard
 no-lf model p b e = rw (e, and-false (p .ended))
 
 -- what a line comes to: what is sent, what all share, and the port with an empty line again
-pub record Judged (s : Shared) (error : Word) (v : Verdict) (bytes : List ℕ) (next : State) : Type 0 where
+pub record Judged (s : Instrument) (error : Word) (v : Verdict) (bytes : List ℕ) (next : State) : Type 0 where
   pub reply : bytes ≡ lineText v
-  pub shared : next .shared ≡ heard s v
+  pub instrument : next .instrument ≡ applied s v
   pub line : Line (next .port) [] (choice v) (gathering error v)
 
 -- what the port holds when a line ends, be it good or bad, with its selection and error word
@@ -107,8 +107,8 @@ pub held-line : {p : Port} {l : List ℕ} {selection : Selection} {error : Word}
 held-line h = record { text = rw (h .good) (h .text); chosen = h .chosen; word = h .word }
 
 -- what an ENQ on an empty line is answered with, and the error word after it: it is gone where it was sent
-abbrev pub enqText : Shared → Word → Selection → List ℕ
-enqText s error Nothing = replyText s error (Asked Err)
+abbrev pub enqText : Instrument → Word → Selection → List ℕ
+enqText s error Nothing = replyText s error (OfQuery Err)
 enqText s error (Chosen m) = replyText s error m
 
 abbrev pub wordLeft : Word → Selection → Word
@@ -116,25 +116,25 @@ wordLeft error Nothing = noError
 wordLeft error (Chosen m) = cond (isErr m) noError error
 
 -- a reply tells the error word only where it is ERR's or stands for none, and then the word is gone
-pub reply-without-word : (s : Shared) (error : Word) (selection : Selection) → enqText s (wordLeft error selection) selection ≡ enqText s noError selection
+pub reply-without-word : (s : Instrument) (error : Word) (selection : Selection) → enqText s (wordLeft error selection) selection ≡ enqText s noError selection
 unfolding replyText
 reply-without-word s error Nothing = refl
-reply-without-word s error (Chosen (Of x)) = refl
+reply-without-word s error (Chosen (OfSetting x)) = refl
 reply-without-word s error (Chosen (Cf k)) = refl
-reply-without-word s error (Chosen (Asked Sps)) = refl
-reply-without-word s error (Chosen (Asked (Pr k))) = refl
-reply-without-word s error (Chosen (Asked Prx)) = refl
-reply-without-word s error (Chosen (Asked Tid)) = refl
-reply-without-word s error (Chosen (Asked Ayt)) = refl
-reply-without-word s error (Chosen (Asked Err)) = refl
+reply-without-word s error (Chosen (OfQuery Sps)) = refl
+reply-without-word s error (Chosen (OfQuery (Pr k))) = refl
+reply-without-word s error (Chosen (OfQuery Prx)) = refl
+reply-without-word s error (Chosen (OfQuery Tid)) = refl
+reply-without-word s error (Chosen (OfQuery Ayt)) = refl
+reply-without-word s error (Chosen (OfQuery Err)) = refl
 reply-without-word s error (Chosen Com) = refl
 reply-without-word s error (Chosen Sav) = refl
 
 -- an ENQ sends it where no mnemonic is selected, or ERR is
 pub told-word : (error : Word) (m : Mnemonic) → wordLeft error (selected m) ≡ cond (not (hasReply m) || isErr m) noError error
-told-word error (Of x) = refl
+told-word error (OfSetting x) = refl
 told-word error (Cf k) = refl
-told-word error (Asked q) = refl
+told-word error (OfQuery q) = refl
 told-word error Com = refl
 told-word error Sav = refl
 
@@ -147,52 +147,52 @@ word-stays-gone error (Chosen m) = by (isErr m)
     by true = refl
     by false = refl
 
-pub record Replied (s : Shared) (error : Word) (selection : Selection) (bytes : List ℕ) (next : State) : Type 0 where
+pub record Replied (s : Instrument) (error : Word) (selection : Selection) (bytes : List ℕ) (next : State) : Type 0 where
   pub reply : bytes ≡ enqText s error selection
-  pub shared : next .shared ≡ s
+  pub instrument : next .instrument ≡ s
   pub line : Line (next .port) [] selection (wordLeft error selection)
 
 replied-line : {p : Port} {m : Mnemonic} {error : Word} → Line p [] (Chosen m) error → Line (replied p m .port) [] (Chosen m) (cond (isErr m) noError error)
 replied-line {p} {m} {error} h = by (isErr m)
   where
     by : (t : Bool) → Line (cond t (withChoice p (Chosen m) noError) p) [] (Chosen m) (cond t noError error)
-    by true = with-choice h (Chosen m) noError noError refl
+    by true = line-chosen h (Chosen m) noError noError refl
     by false = h
 
-asked-empty : {p : Port} {selection : Selection} {error : Word} → Line p [] selection error → asked p ≡ answered p selection
+asked-empty : {p : Port} {selection : Selection} {error : Word} → Line p [] selection error → asked p ≡ bySelection p selection
 unfolding asked
-asked-empty {p} h = let empty : isEmpty p ≡ true = rw (h .good, h .count) in rw empty (ap (answered p) (h .chosen))
+asked-empty {p} h = let empty : isEmpty p ≡ true = rw (h .good, h .count) in rw empty (ap (bySelection p) (h .chosen))
 
-answered-line : (s : Shared) {p : Port} {selection : Selection} {error : Word} → Line p [] selection error
-    → (eventText s (answered p selection .event) ≡ enqText s error selection) × (acted s (answered p selection .event) ≡ s) × Line (answered p selection .port) [] selection (wordLeft error selection)
+answered-line : (s : Instrument) {p : Port} {selection : Selection} {error : Word} → Line p [] selection error
+    → (eventText s (bySelection p selection .event) ≡ enqText s error selection) × (acted s (bySelection p selection .event) ≡ s) × Line (bySelection p selection .port) [] selection (wordLeft error selection)
 unfolding eventText
-answered-line s {p} {selection = Nothing} h = (ap (λ (w : Word). replyText s w (Asked Err)) (h .word), refl, with-choice (emptied-line p (h .chosen) (h .word)) Nothing noError noError refl)
+answered-line s {p} {selection = Nothing} h = (ap (λ (w : Word). replyText s w (OfQuery Err)) (h .word), refl, line-chosen (emptied-line p (h .chosen) (h .word)) Nothing noError noError refl)
 answered-line s {selection = Chosen m} h = (ap (λ (w : Word). replyText s w m) (h .word), refl, replied-line h)
 
 module _ (s : State) where
   pub cr-judges : {l : List ℕ} {selection : Selection} {error : Word} → Held (s .port) l selection error
-      → Judged (s .shared) error (judged (s .shared .model) l) (sent s 13) (next s 13)
+      → Judged (s .instrument) error (judged (s .instrument .model) l) (sent s 13) (next s 13)
   unfolding next sent eventText byKind kindOf
   cr-judges {l} h =
-      rw (no-lf (s .shared .model) (s .port) 13 refl, h .text)
-      (record { reply = refl; shared = refl; line = concluded-line (marked-line (emptied-line (settled (s .port)) (h .chosen) (h .word)) true) (judged (s .shared .model) l) })
+      rw (no-lf (s .instrument .model) (s .port) 13 refl, h .text)
+      (record { reply = refl; instrument = refl; line = line-concluded (marked-line (emptied-line (settled (s .port)) (h .chosen) (h .word)) true) (judged (s .instrument .model) l) })
 
-  pub enq-replies : {selection : Selection} {error : Word} → Line (s .port) [] selection error → Replied (s .shared) error selection (sent s 5) (next s 5)
+  pub enq-replies : {selection : Selection} {error : Word} → Line (s .port) [] selection error → Replied (s .instrument) error selection (sent s 5) (next s 5)
   unfolding next sent eventText byKind kindOf
   enq-replies {selection} {error} h =
-      rw (no-lf (s .shared .model) (s .port) 5 refl, asked-empty (settled-line h))
-      (let a = answered-line (s .shared) (settled-line h) in record { reply = a .0; shared = a .1; line = a .2 })
+      rw (no-lf (s .instrument .model) (s .port) 5 refl, asked-empty (settled-line h))
+      (let a = answered-line (s .instrument) (settled-line h) in record { reply = a .0; instrument = a .1; line = a .2 })
 
   -- an LF, straight after a CR or not, sends nothing and leaves the line as it is
   pub lf-nothing : {l : List ℕ} {selection : Selection} {error : Word} → Line (s .port) l selection error
-      → (sent s 10 ≡ []) × (next s 10 .shared ≡ s .shared) × Line (next s 10 .port) l selection error
-  unfolding next sent eventText portHeard byKind kindOf
+      → (sent s 10 ≡ []) × (next s 10 .instrument ≡ s .instrument) × Line (next s 10 .port) l selection error
+  unfolding next sent eventText heard byKind kindOf
   lf-nothing {l} {selection} {error} h =
-      cond-cases (λ (x : Heard). (eventText (s .shared) (x .event) ≡ []) × (acted (s .shared) (x .event) ≡ s .shared) × Line (x .port) l selection error) (s .port .ended && eqb 10 10)
+      cond-cases (λ (x : Heard). (eventText (s .instrument) (x .event) ≡ []) × (acted (s .instrument) (x .event) ≡ s .instrument) × Line (x .port) l selection error) (s .port .ended && eqb 10 10)
       (quiet (withMark (s .port) false)) (quiet (settled (s .port))) (λ _. (refl, refl, marked-line h false)) (λ _. (refl, refl, settled-line h))
 
-  pub etx-empties : (sent s 3 ≡ []) × (next s 3 .shared ≡ s .shared) × Line (next s 3 .port) [] Nothing (s .port .error)
+  pub etx-empties : (sent s 3 ≡ []) × (next s 3 .instrument ≡ s .instrument) × Line (next s 3 .port) [] Nothing (s .port .error)
   unfolding next sent eventText byKind kindOf
   etx-empties =
-      rw (no-lf (s .shared .model) (s .port) 3 refl)
+      rw (no-lf (s .instrument .model) (s .port) 3 refl)
       (refl, refl, record { good = refl; count = refl; text = refl; places = refl; chosen = refl; word = refl })

@@ -12,21 +12,21 @@ use Rattle.ground.proofs.Cases.{never}
 use Rattle.text.specs.Text.{ascii}
 use Rattle.text.specs.Digits.{bare}
 use Rattle.numbers.specs.Rounding.{climbWithin, five, power, rounded, fittedTo}
-use Rattle.numerals.specs.Digits.{lead, rest, headIs, value}
+use Rattle.numerals.specs.Runs.{lead, rest, headIs, value}
 use Rattle.numerals.specs.Whole.{numberOf, behindPoint, factorOf}
-use Rattle.numerals.specs.Threshold.{afterPlus, afterSign, powerOf, judged as judgedNumeral, fraction, afterFraction, thresholdOf}
+use Rattle.numerals.specs.Exponential.{afterPlus, afterSign, powerOf, composed, fraction, afterFraction, thresholdOf}
 use Rattle.numerals.specs.Writing.{scientific}
 use Rattle.ground.specs.Members.{every, Each}
 use Rattle.settings.specs.Models.{channels, defaults}
 use Rattle.settings.specs.Mnemonics.{sheet, known, name, same, found, recognised}
 use Rattle.settings.specs.Kinds.{storedKinds, kinds}
-use Rattle.settings.specs.Rows.{row, listed, count}
+use Rattle.settings.specs.Rows.{row, listed, fieldCount}
 use Rattle.settings.specs.declared.model.Model.{Model}
 use Rattle.settings.specs.declared.model.Model.the-variants.{Tpg361, Tpg362}
 use Rattle.settings.specs.declared.mnemonic.Setting.{Setting}
 use Rattle.settings.specs.declared.mnemonic.Setting.the-variants.{Uni, Fil, Cal, Dcd, Sp, Stored}
 use Rattle.settings.specs.declared.mnemonic.Mnemonic.{Mnemonic}
-use Rattle.settings.specs.declared.mnemonic.Mnemonic.the-variants.{Setting as Of}
+use Rattle.settings.specs.declared.mnemonic.Mnemonic.the-variants.{OfSetting}
 use Rattle.settings.specs.declared.rows.Row.{Row}
 use Rattle.settings.specs.declared.Settings.{Settings}
 use Rattle.ground.proofs.Members.{each-map, each-both, every-each}
@@ -35,7 +35,7 @@ use Rattle.settings.proofs.Storing.Holding.{uni, fil}
 use Rattle.settings.proofs.Sheets.{sheet-holding, on-sheet, sheet-each}
 use Rattle.lines.specs.Splitting.{fields, joined}
 use Rattle.lines.specs.Fields.{limited}
-use Rattle.lines.specs.Judging.{readings, formed, valued, withFields, judged}
+use Rattle.lines.specs.Judging.{fieldsRead, formed, valued, withFields, judged}
 use Rattle.lines.specs.Replies.{texts, settingText}
 use Rattle.text.specs.Control.{crLf}
 use Rattle.lines.specs.declared.word.Word.{Word}
@@ -43,13 +43,13 @@ use Rattle.lines.specs.declared.verdict.Verdict.{Verdict}
 use Rattle.lines.specs.declared.verdict.Verdict.the-variants.{Asks, Writes, Refused}
 use Rattle.ports.specs.Line.{grown}
 use Rattle.ports.specs.Hearing.{kindOf, concluded, asked, byKind, heard}
-use Rattle.shared.specs.Events.{written}
-use Rattle.shared.specs.Replies.{replyText}
-use Rattle.shared.specs.declared.Shared.{Shared}
+use Rattle.instrument.specs.Events.{written}
+use Rattle.instrument.specs.Replies.{replyText}
+use Rattle.instrument.specs.declared.Instrument.{Instrument}
 use Rattle.tpg.specs.States.{freshBox, Sound}
 use Rattle.tpg.specs.Steps.{eventText, next, sent, after}
 use Rattle.tpg.specs.declared.State.{State}
-use Rattle.tpg.proofs.Kept.{fresh-sound, after-sound, after-model}
+use Rattle.tpg.proofs.StateLimits.{fresh-sound, after-sound, after-model}
 use Rattle.demands.specs.Wire.{Inner, lineIn, byCr, ended, Ready, Way, sending, asOften, answered}
 use Rattle.demands.specs.Replies.{Says, Becomes, Reads, Replies}
 use Rattle.demands.specs.Sheets.{boxModel, boxSettings, Boxes, firstLine, copyOf, linesSent}
@@ -60,8 +60,8 @@ use Rattle.demands.proofs.Copying.{first-line, no-cr, some-channel}
 abbrev fresh : Model → State
 fresh model = freshBox model 0
 
-alike : (model : Model) → Boxes (fresh model) (fresh model)
-alike model = let k = fresh-sound model 0 refl in record { first = k; second = k; model = refl }
+same-box : (model : Model) → Boxes (fresh model) (fresh model)
+same-box model = let k = fresh-sound model 0 refl in record { first = k; second = k; model = refl }
 
 -- ---- a box that NAKs everything
 
@@ -70,7 +70,7 @@ pub naks-all : (says : Says) (becomes : Becomes) → Meets says becomes → Naks
 unfolding flatMap
 naks-all says becomes meets naks =
     let a = fresh Tpg362 in
-    subst (Each (λ (b : ℕ). b ≢ 6)) (meets .copied a a (alike Tpg362) byCr byCr .0) (naks a (linesSent byCr (copyOf says byCr a))) .0 refl
+    subst (Each (λ (b : ℕ). b ≢ 6)) (meets .copied a a (same-box Tpg362) byCr byCr .0) (naks a (linesSent byCr (copyOf says byCr a))) .0 refl
 
 -- ---- boxes that differ
 
@@ -85,14 +85,14 @@ others (Stored k) = getD ("1" ∷ "1" ∷ "1" ∷ "1" ∷ "2" ∷ "1" ∷ "1" �
 
 -- a box that was sent them
 changed : Model → Setting → State
-changed model x = after (fresh model) (ended byCr (joined (name (Of x) ∷ take (count model x) (map ascii (others x)))))
+changed model x = after (fresh model) (ended byCr (joined (name (OfSetting x) ∷ take (fieldCount model x) (map ascii (others x)))))
 
 -- is not what it was
 moved : Model → Setting → Bool
 moved model x = not (same (settingText model (boxSettings (changed model x)) x) (settingText model (defaults model) x))
 
 all-moved : (model : Model) → every (moved model) (sheet model) ≡ true
-unfolding moved changed others bare climbWithin five power rounded fittedTo lead rest headIs value numberOf behindPoint factorOf afterPlus afterSign powerOf judgedNumeral fraction afterFraction thresholdOf scientific every known same found recognised storedKinds fields limited readings formed valued withFields judged settingText grown kindOf concluded asked byKind heard written eventText next sent after
+unfolding moved changed others bare climbWithin five power rounded fittedTo lead rest headIs value numberOf behindPoint factorOf afterPlus afterSign powerOf composed fraction afterFraction thresholdOf scientific every known same found recognised storedKinds fields limited fieldsRead formed valued withFields judged settingText grown kindOf concluded asked byKind heard written eventText next sent after
 all-moved Tpg361 = refl
 all-moved Tpg362 = refl
 
@@ -121,12 +121,12 @@ apart t u differs e = let d : same t u ≡ false = not-true (same t u) differs i
 -- ---- one that always sends the same reply
 
 -- what is told of a setting is its text
-told-text : (says : Says) → Replies says → (s : State) → Sound s → (x : Setting) → Holding x → told says s (Of x) ≡ settingText (boxModel s) (boxSettings s) x ++ crLf
+told-text : (says : Says) → Replies says → (s : State) → Sound s → (x : Setting) → Holding x → told says s (OfSetting x) ≡ settingText (boxModel s) (boxSettings s) x ++ crLf
 unfolding asOften replyText
 told-text says replies s k x h =
     let reads = each-map _ (λ (m : Mnemonic). Reads says s m) (λ m both. both .0) (known (boxModel s)) (replies s k) in
     let text = settingText (boxModel s) (boxSettings s) x in
-    ap (drop 3) (on-sheet (λ (x : Setting). Reads says s (Of x)) (boxModel s) (sheet-each (λ (m : Mnemonic). Reads says s m) (boxModel s) reads) x h refl once tt)
+    ap (drop 3) (on-sheet (λ (x : Setting). Reads says s (OfSetting x)) (boxModel s) (sheet-each (λ (m : Mnemonic). Reads says s m) (boxModel s) reads) x h refl once tt)
     ∙ rw (lt-ltb 0 (channels (boxModel s)) (some-channel (boxModel s))) (append-nil (text ++ crLf))
 
 -- a fresh 362 answers 4 for its unit and 2,2 for its filters
@@ -136,7 +136,7 @@ blind-to-lines says becomes meets blind =
     let s = fresh Tpg362 in
     let k = fresh-sound Tpg362 0 refl in
     let e : _≡_ {A = ℕ} 52 50 =
-    ap (λ (t : List ℕ). getD t 0 0) (sym (told-text says (meets .replies) s k Uni uni) ∙ blind s (Of Uni) (Of Fil) ∙ told-text says (meets .replies) s k Fil fil) in
+    ap (λ (t : List ℕ). getD t 0 0) (sym (told-text says (meets .replies) s k Uni uni) ∙ blind s (OfSetting Uni) (OfSetting Fil) ∙ told-text says (meets .replies) s k Fil fil) in
     omega (arith, e)
 
 -- a program that answers as 01 says tells a setting that was changed from one that was not
@@ -175,7 +175,7 @@ stores model x h differs says becomes meets forgets =
     let both : Boxes a b = record { first = changed-sound model x; second = fresh-sound model 0 refl; model = changed-model model x } in
     let equal : row (boxSettings a) x ≡ row (defaults model) x = ap (λ (s : Settings). row s x) (sym (meets .copied a b both byCr byCr .1)) ∙ forgets a b both byCr byCr in
     apart (settingText model (boxSettings a) x) (settingText model (defaults model) x) differs
-    (ap (λ (r : Row). joined (texts (kinds model (Of x)) (take (count model x) (listed r)))) equal)
+    (ap (λ (r : Row). joined (texts (kinds model (OfSetting x)) (take (fieldCount model x) (listed r)))) equal)
 
 -- demand 3, "the settings are equal": whichever setting of the sheet it is that a program never stores
 pub forgets : (model : Model) → Each Stores (sheet model)
@@ -184,7 +184,7 @@ forgets model = each-moved Stores model (stores model)
 -- ---- one that knows patterns, and sends nothing elsewhere
 
 -- for a line something is sent, ACK or NAK
-some-answer : (n : ℕ) (s : Shared) (error : Word) (v : Verdict) (front rest : List ℕ) → front ++ (answered n s error v ++ rest) ≢ []
+some-answer : (n : ℕ) (s : Instrument) (error : Word) (v : Verdict) (front rest : List ℕ) → front ++ (answered n s error v ++ rest) ≢ []
 some-answer n s error (Asks m) [] rest e = never (cc)
 some-answer n s error (Writes m r) [] rest e = never (cc)
 some-answer n s error (Refused x) [] rest e = never (cc)
@@ -198,5 +198,5 @@ silent-elsewhere says becomes meets Listed silent s k front w ready bytes inner 
     let now = becomes s front in
     let sound = meets .keeps s k front .0 in
     let line = meets .splits now sound (sending w bytes) rest .0 ∙ ap (λ (t : List ℕ). t ++ says (becomes now (sending w bytes)) rest) (meets .answers now sound w ready bytes inner) in
-    some-answer (w .enqs) (now .shared) (now .port .error) (judged (now .shared .model) (lineIn bytes)) (says s front) (says (becomes now (sending w bytes)) rest)
+    some-answer (w .enqs) (now .instrument) (now .port .error) (judged (now .instrument .model) (lineIn bytes)) (says s front) (says (becomes now (sending w bytes)) rest)
     (sym (meets .splits s k front (sending w bytes ++ rest) .0 ∙ ap (λ (t : List ℕ). says s front ++ t) line) ∙ silent s (front ++ (sending w bytes ++ rest)) other)

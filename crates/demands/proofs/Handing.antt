@@ -11,8 +11,8 @@ use Rattle.tpg.specs.Answers.{leastOutput}
 use Rattle.tpg.specs.States.{Sound}
 use Rattle.tpg.specs.Steps.{after, said}
 use Rattle.tpg.specs.declared.State.{State}
-use Rattle.tpg.proofs.Runs.{after-append, said-append}
-use Rattle.tpg.proofs.Kept.{after-sound, after-model}
+use Rattle.tpg.proofs.HostRun.{after-append, said-append}
+use Rattle.tpg.proofs.StateLimits.{after-sound, after-model}
 use Rattle.demands.specs.Turns.{Plan, saysOver, becomesOver}
 use Rattle.demands.specs.Wire.{End, sending}
 use Rattle.demands.specs.Replies.{Says, Becomes, Reads, WritesBack}

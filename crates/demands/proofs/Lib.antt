@@ -10,4 +10,4 @@ pub mod Splitting
 pub mod Handing
 pub mod Agreeing
 pub mod Excluded
-pub mod Rows
+pub mod Examples

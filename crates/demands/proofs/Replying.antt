@@ -10,20 +10,20 @@ use Rattle.ground.proofs.Cases.{never}
 use Rattle.settings.specs.Models.{channels}
 use Rattle.settings.specs.Mnemonics.{sheet, known, name, channelOf, hasReply}
 use Rattle.settings.specs.Kinds.{factor, kinds}
-use Rattle.settings.specs.Rows.{plain, pairRow, row, listed, number, count}
+use Rattle.settings.specs.Rows.{plain, pairRow, row, listed, firstNumber, fieldCount}
 use Rattle.ground.specs.Members.{Each}
 use Rattle.settings.specs.declared.mnemonic.Setting.{Setting}
 use Rattle.settings.specs.declared.mnemonic.Setting.the-variants.{Cal}
 use Rattle.settings.specs.declared.mnemonic.Query.{Query}
 use Rattle.settings.specs.declared.mnemonic.Query.the-variants.{Sps, Pr, Prx, Tid, Ayt, Err}
 use Rattle.settings.specs.declared.mnemonic.Mnemonic.{Mnemonic}
-use Rattle.settings.specs.declared.mnemonic.Mnemonic.the-variants.{Setting as Of, Cf, Query as Asked, Com, Sav}
+use Rattle.settings.specs.declared.mnemonic.Mnemonic.the-variants.{OfSetting, Cf, OfQuery, Com, Sav}
 use Rattle.settings.specs.declared.rows.Row.{Row}
 use Rattle.ground.proofs.Members.{each-map, each-both}
 use Rattle.settings.proofs.Places.{fits-plain, row-places}
 use Rattle.settings.proofs.Storing.{Holding, mixed-front, stored-row, factor-row}
 use Rattle.settings.proofs.Sheets.{sheet-holding, few, known-each}
-use Rattle.settings.proofs.Keeping.{Fitting, fitting-canon}
+use Rattle.settings.proofs.StoredLimits.{Fitting, fitting-canon}
 use Rattle.lines.specs.Words.{noError, gathered}
 use Rattle.lines.specs.Judging.{alone, judged}
 use Rattle.lines.specs.Replies.{settingText}
@@ -32,18 +32,18 @@ use Rattle.lines.specs.declared.verdict.Fault.the-variants.{Hardware}
 use Rattle.lines.specs.declared.verdict.Verdict.{Verdict}
 use Rattle.lines.specs.declared.verdict.Verdict.the-variants.{Asks, Writes, Refused}
 use Rattle.lines.proofs.Accepted.{Spelt, all-spelt}
-use Rattle.lines.proofs.Kept.{writes-fitting}
+use Rattle.lines.proofs.WrittenLimits.{writes-fitting}
 use Rattle.ports.specs.declared.Selection.{Selection}
-use Rattle.shared.specs.Events.{written, heard}
-use Rattle.shared.specs.Replies.{replyText}
-use Rattle.shared.specs.declared.Shared.{Shared}
+use Rattle.instrument.specs.Events.{written, applied}
+use Rattle.instrument.specs.Replies.{replyText}
+use Rattle.instrument.specs.declared.Instrument.{Instrument}
 use Rattle.tpg.specs.States.{Sound}
 use Rattle.tpg.specs.Steps.{lineText, next, after, said}
 use Rattle.tpg.specs.declared.State.{State}
-use Rattle.demands.specs.Wire.{ackLine, nakLine, Inner, lineIn, ended, Start, onEmpty, afterEtx, begun, Ready, enquiries, asOften, selectedText, errorText, answered, gathering, errorLeft, writtenText}
+use Rattle.demands.specs.Wire.{ackLine, nakLine, Inner, lineIn, ended, Start, onEmpty, afterEtx, opened, Ready, enquiries, asOften, selectedText, errorText, answered, gathering, errorLeft, writtenText}
 use Rattle.demands.specs.Replies.{Answers, Left, Leaves, Reads, WritesBack, Replies}
 use Rattle.demands.proofs.Ending.{Line, choice, enqText}
-use Rattle.demands.proofs.Typing.{line-enquired, line-left, anew-line, anew-shared, anew-said, anew-after, empty-line}
+use Rattle.demands.proofs.Typing.{line-enquired, line-left, anew-line, anew-instrument, anew-said, anew-after, empty-line}
 use Rattle.demands.proofs.Spelling.{typeable-inner, typeable-line, Short, names-short, name-typeable, name-judged}
 
 -- ---- every line
@@ -54,15 +54,15 @@ unfolding asOften
 often-same zero f g same error = refl
 often-same (suc n) f g same error = ap₂ (λ (t u : List ℕ). t ++ u) (same error) (often-same n f g same noError)
 
-selected-text : (s : Shared) (m : Mnemonic) (error : Word) → enqText s error (choice (Asks m)) ≡ selectedText s m error
-selected-text s (Of x) error = refl
+selected-text : (s : Instrument) (m : Mnemonic) (error : Word) → enqText s error (choice (Asks m)) ≡ selectedText s m error
+selected-text s (OfSetting x) error = refl
 selected-text s (Cf k) error = refl
-selected-text s (Asked q) error = refl
+selected-text s (OfQuery q) error = refl
 selected-text s Com error = refl
 selected-text s Sav error = refl
 
-answered-text : (n : ℕ) (s : Shared) (error : Word) (v : Verdict)
-    → lineText v ++ asOften n (λ (w : Word). enqText (heard s v) w (choice v)) (gathering error v) ≡ answered n s error v
+answered-text : (n : ℕ) (s : Instrument) (error : Word) (v : Verdict)
+    → lineText v ++ asOften n (λ (w : Word). enqText (applied s v) w (choice v)) (gathering error v) ≡ answered n s error v
 answered-text n s error (Asks m) = ap (λ (t : List ℕ). ackLine ++ t) (often-same n _ _ (selected-text s m) error)
 answered-text n s error (Writes m r) = ap (λ (t : List ℕ). ackLine ++ t) (often-same n _ _ (selected-text (written s m r) m) error)
 answered-text n s error (Refused x) = refl
@@ -72,58 +72,58 @@ pub line-answered : Answers said
 line-answered s k w = by (w .start)
   where
     by : (start : Start) → Ready start s → (bytes : List ℕ) → Each Inner bytes
-        → said s (begun start (ended (w .end) bytes ++ enquiries (w .enqs))) ≡ answered (w .enqs) (s .shared) (s .port .error) (judged (s .shared .model) (lineIn bytes))
+        → said s (opened start (ended (w .end) bytes ++ enquiries (w .enqs))) ≡ answered (w .enqs) (s .instrument) (s .port .error) (judged (s .instrument .model) (lineIn bytes))
     by onEmpty ready bytes inner =
-        line-enquired s (empty-line s k ready) bytes inner (judged (s .shared .model) (lineIn bytes)) refl (w .end) (w .enqs)
-        ∙ answered-text (w .enqs) (s .shared) (s .port .error) (judged (s .shared .model) (lineIn bytes))
+        line-enquired s (empty-line s k ready) bytes inner (judged (s .instrument .model) (lineIn bytes)) refl (w .end) (w .enqs)
+        ∙ answered-text (w .enqs) (s .instrument) (s .port .error) (judged (s .instrument .model) (lineIn bytes))
     by afterEtx ready bytes inner =
         let now = next s 3 in
-        anew-said s (ended (w .end) bytes ++ enquiries (w .enqs)) ∙ line-enquired now (anew-line s) bytes inner (judged (now .shared .model) (lineIn bytes)) refl (w .end) (w .enqs)
-        ∙ answered-text (w .enqs) (now .shared) (s .port .error) (judged (now .shared .model) (lineIn bytes))
-        ∙ ap (λ (x : Shared). answered (w .enqs) x (s .port .error) (judged (x .model) (lineIn bytes))) (anew-shared s)
+        anew-said s (ended (w .end) bytes ++ enquiries (w .enqs)) ∙ line-enquired now (anew-line s) bytes inner (judged (now .instrument .model) (lineIn bytes)) refl (w .end) (w .enqs)
+        ∙ answered-text (w .enqs) (now .instrument) (s .port .error) (judged (now .instrument .model) (lineIn bytes))
+        ∙ ap (λ (x : Instrument). answered (w .enqs) x (s .port .error) (judged (x .model) (lineIn bytes))) (anew-instrument s)
 
 -- and what it wrote is stored
 pub line-leaves : Leaves after
 line-leaves s k w = by (w .start)
   where
-    left : {t : State} {v : Verdict} {x : Selection} → (t .shared ≡ heard (s .shared) v) × Line (t .port) [] x (errorLeft (w .enqs) (s .port .error) v) → Left s (w .enqs) v t
-    left l = record { shared = l .0; error = l .1 .word; empty = rw (l .1 .good, l .1 .count) }
+    left : {t : State} {v : Verdict} {x : Selection} → (t .instrument ≡ applied (s .instrument) v) × Line (t .port) [] x (errorLeft (w .enqs) (s .port .error) v) → Left s (w .enqs) v t
+    left l = record { instrument = l .0; error = l .1 .word; empty = rw (l .1 .good, l .1 .count) }
 
     by : (start : Start) → Ready start s → (bytes : List ℕ) → Each Inner bytes
-        → Left s (w .enqs) (judged (s .shared .model) (lineIn bytes)) (after s (begun start (ended (w .end) bytes ++ enquiries (w .enqs))))
-    by onEmpty ready bytes inner = left (line-left s (empty-line s k ready) bytes inner (judged (s .shared .model) (lineIn bytes)) refl (w .end) (w .enqs))
+        → Left s (w .enqs) (judged (s .instrument .model) (lineIn bytes)) (after s (opened start (ended (w .end) bytes ++ enquiries (w .enqs))))
+    by onEmpty ready bytes inner = left (line-left s (empty-line s k ready) bytes inner (judged (s .instrument .model) (lineIn bytes)) refl (w .end) (w .enqs))
     by afterEtx ready bytes inner =
         let all = ended (w .end) bytes ++ enquiries (w .enqs) in
         let t = after (next s 3) all in
         rw (anew-after s all)
         (left
         (subst
-        (λ (x : Shared). let v = judged (x .model) (lineIn bytes) in (t .shared ≡ heard x v) × Line (t .port) [] (choice v) (errorLeft (w .enqs) (s .port .error) v))
-        (anew-shared s) (line-left (next s 3) (anew-line s) bytes inner (judged (next s 3 .shared .model) (lineIn bytes)) refl (w .end) (w .enqs))))
+        (λ (x : Instrument). let v = judged (x .model) (lineIn bytes) in (t .instrument ≡ applied x v) × Line (t .port) [] (choice v) (errorLeft (w .enqs) (s .port .error) v))
+        (anew-instrument s) (line-left (next s 3) (anew-line s) bytes inner (judged (next s 3 .instrument .model) (lineIn bytes)) refl (w .end) (w .enqs))))
 
 -- ---- a mnemonic that is read
 
 alone-asks : (m : Mnemonic) → hasReply m ≡ true → alone m ≡ Asks m
-alone-asks (Of x) h = refl
+alone-asks (OfSetting x) h = refl
 alone-asks (Cf k) h = refl
-alone-asks (Asked q) h = refl
+alone-asks (OfQuery q) h = refl
 alone-asks Com h = never (cc)
 alone-asks Sav h = never (cc)
 
 -- told where the model has its channel, refused where it has not
-read-text : (n : ℕ) (s : Shared) (error : Word) (m : Mnemonic) → hasReply m ≡ true → (there : Bool)
+read-text : (n : ℕ) (s : Instrument) (error : Word) (m : Mnemonic) → hasReply m ≡ true → (there : Bool)
     → answered n s error (cond there (alone m) (Refused Hardware)) ≡ cond there (ackLine ++ asOften n (λ (w : Word). replyText s w m) error) (nakLine ++ asOften n (errorText s) (gathered error Hardware))
 read-text n s error m has true =
     rw (alone-asks m has) (ap (λ (t : List ℕ). ackLine ++ t) (often-same n (selectedText s m) (λ (w : Word). replyText s w m) (λ w. rw has) error))
 read-text n s error m has false = refl
 
-reads : (s : State) → Sound s → (m : Mnemonic) → Spelt (s .shared .model) m → Short (name m) → Reads said s m
+reads : (s : State) → Sound s → (m : Mnemonic) → Spelt (s .instrument .model) m → Short (name m) → Reads said s m
 reads s k m sp short has w ready =
-    let model = s .shared .model in
+    let model = s .instrument .model in
     let t = name-typeable m short in
     line-answered s k w ready (name m) (typeable-inner (name m) t)
-    ∙ ap (answered (w .enqs) (s .shared) (s .port .error)) (ap (judged model) (typeable-line (name m) t) ∙ name-judged model m sp)
-    ∙ read-text (w .enqs) (s .shared) (s .port .error) m has (ltb (channelOf m) (channels model))
+    ∙ ap (answered (w .enqs) (s .instrument) (s .port .error)) (ap (judged model) (typeable-line (name m) t) ∙ name-judged model m sp)
+    ∙ read-text (w .enqs) (s .instrument) (s .port .error) m has (ltb (channelOf m) (channels model))
 
 -- ---- a line that writes it
 
@@ -136,27 +136,27 @@ take-set (suc n) (suc i) v (x ∷ l) = ap (λ (t : List _). x ∷ t) (take-set n
 module _ (s : State) (k : Sound s) where
   -- what the ENQ tells of a line that wrote is what it wrote
   Back : Mnemonic → Type 0
-  Back m = (r : Row) → Fitting (kinds (s .shared .model) m) r → (error : Word) → selectedText (written (s .shared) m r) m error ≡ writtenText (s .shared) m r error
+  Back m = (r : Row) → Fitting (kinds (s .instrument .model) m) r → (error : Word) → selectedText (written (s .instrument) m r) m error ≡ writtenText (s .instrument) m r error
 
   -- the cells of a setting are the line's
-  setting-back : (x : Setting) → Holding x → Back (Of x)
+  setting-back : (x : Setting) → Holding x → Back (OfSetting x)
   unfolding Back replyText written settingText
   setting-back x h r f error =
-      let m = s .shared .model in
-      let b = s .shared .settings in
-      rw (stored-row m b r (k .formed .shared .settings) h (fitting-canon m r h f), mixed-front (count m x) r (row b x) (few m x))
+      let m = s .instrument .model in
+      let b = s .instrument .settings in
+      rw (stored-row m b r (k .shaped .instrument .settings) h (fitting-canon m r h f), mixed-front (fieldCount m x) r (row b x) (few m x))
 
   -- of CAL's cells only the channel's own is
   factor-back : (c : ℕ) → c < 2 → Back (Cf c)
   unfolding Back replyText written settingText
   factor-back c h r f error =
-      let m = s .shared .model in
-      let b = s .shared .settings in
+      let m = s .instrument .model in
+      let b = s .instrument .settings in
       let fits = row-places (factor ∷ []) r (pairRow 0 0) f 0 (omega arith) in
-      let own : plain (number r) ≡ r .first = sym (fits-plain (record { least = 100; most = 10000; reach = 10000 }) (r .first) fits) in
-      rw (factor-row m b r (k .formed .shared .settings) c h, own, take-set (count m Cal) c (r .first) (listed (row b Cal)))
+      let own : plain (firstNumber r) ≡ r .first = sym (fits-plain (record { least = 100; most = 10000; reach = 10000 }) (r .first) fits) in
+      rw (factor-row m b r (k .shaped .instrument .settings) c h, own, take-set (fieldCount m Cal) c (r .first) (listed (row b Cal)))
 
-  query-back : (q : Query) → Back (Asked q)
+  query-back : (q : Query) → Back (OfQuery q)
   unfolding Back replyText written
   query-back q r f error = refl
 
@@ -169,9 +169,9 @@ module _ (s : State) (k : Sound s) where
   sav-back r f error = refl
 
   -- those of the sheet, and the others
-  all-back : Each Back (known (s .shared .model))
+  all-back : Each Back (known (s .instrument .model))
   all-back =
-      known-each Back (s .shared .model) (each-map Holding (λ (x : Setting). Back (Of x)) setting-back (sheet (s .shared .model)) (sheet-holding (s .shared .model))) (
+      known-each Back (s .instrument .model) (each-map Holding (λ (x : Setting). Back (OfSetting x)) setting-back (sheet (s .instrument .model)) (sheet-holding (s .instrument .model))) (
         factor-back 0 (omega arith),
         (
           factor-back 1 (omega arith),
@@ -203,13 +203,13 @@ module _ (s : State) (k : Sound s) where
   writes-back : (m : Mnemonic) → Back m → WritesBack said s m
   unfolding Back
   writes-back m b w ready bytes r inner e =
-      line-answered s k w ready bytes inner ∙ ap (answered (w .enqs) (s .shared) (s .port .error)) e
-      ∙ ap (λ (x : List ℕ). ackLine ++ x) (often-same (w .enqs) _ _ (b r (writes-fitting (s .shared .model) (lineIn bytes) m r e)) (s .port .error))
+      line-answered s k w ready bytes inner ∙ ap (answered (w .enqs) (s .instrument) (s .port .error)) e
+      ∙ ap (λ (x : List ℕ). ackLine ++ x) (often-same (w .enqs) _ _ (b r (writes-fitting (s .instrument .model) (lineIn bytes) m r e)) (s .port .error))
 
 -- every mnemonic that the model knows, read and written, in every state that a box can be in
 pub mnemonics-answered : Replies said
 mnemonics-answered s k =
-    let model = s .shared .model in
+    let model = s .instrument .model in
     each-both (λ (m : Mnemonic). Reads said s m) (WritesBack said s) (λ (m : Mnemonic). Reads said s m × WritesBack said s m) (λ m a b. (a, b)) (known model)
     (each-both (Spelt model) (λ (m : Mnemonic). Short (name m)) (λ (m : Mnemonic). Reads said s m) (reads s k) (known model) (all-spelt model) (names-short model))
     (each-map (Back s k) (WritesBack said s) (writes-back s k) (known model) (all-back s k))

@@ -9,7 +9,7 @@ use borrow.Author.Tests.{leb-true, le-leb, ne-eqb}
 use lib.ListN.{length, length-append}
 use lib.Dec.{leb, ltb}
 use Rattle.numbers.specs.declared.threshold.Threshold.{Threshold}
-use Rattle.ground.proofs.Cases.{ranged}
+use Rattle.ground.proofs.Cases.{in-range}
 use Rattle.settings.specs.Models.{channels}
 use Rattle.settings.specs.Mnemonics.{known, name, channelOf}
 use Rattle.settings.specs.Kinds.{kinds}
@@ -18,20 +18,20 @@ use Rattle.ground.specs.Members.{every, Each}
 use Rattle.settings.specs.declared.model.Model.{Model}
 use Rattle.settings.specs.declared.mnemonic.Setting.{Setting}
 use Rattle.settings.specs.declared.mnemonic.Mnemonic.{Mnemonic}
-use Rattle.settings.specs.declared.mnemonic.Mnemonic.the-variants.{Setting as Of}
+use Rattle.settings.specs.declared.mnemonic.Mnemonic.the-variants.{OfSetting}
 use Rattle.settings.specs.declared.kinds.Kind.{Kind}
 use Rattle.settings.specs.declared.Settings.{Settings}
 use Rattle.ground.proofs.Members.{each-map, each-append, every-each}
 use Rattle.lines.specs.Splitting.{joined}
 use Rattle.lines.specs.Judging.{alone, withFields, parted, judged}
 use Rattle.lines.specs.Replies.{texts, settingText}
-use Rattle.lines.specs.Sheets.{lineOf}
+use Rattle.lines.specs.Sheets.{sheetLine}
 use Rattle.lines.proofs.ReadBack.{Written, each-written}
 use Rattle.lines.specs.declared.verdict.Fault.the-variants.{Hardware}
 use Rattle.lines.specs.declared.verdict.Verdict.the-variants.{Refused}
 use Rattle.lines.proofs.Walking.{judged-parts}
 use Rattle.lines.proofs.Accepted.{Spelt, fields-one}
-use Rattle.shared.proofs.Lengths.{setting-short}
+use Rattle.instrument.proofs.Lengths.{setting-short}
 use Rattle.demands.specs.Wire.{Inner, undropped, lineIn}
 use Rattle.text.specs.Control.{isCharacter}
 use Rattle.demands.proofs.Typing.{short-good}
@@ -48,7 +48,7 @@ pub record Typeable (l : List ℕ) : Type 0 where
 
 inner : (b : ℕ) → Character b → Inner b
 inner b c =
-    let r = ranged 33 126 b c in
+    let r = in-range 33 126 b c in
     ((λ e. omega (arith, r .0)), (λ e. omega (arith, r .0)), (λ e. omega (arith, r .0)))
 
 pub typeable-inner : (l : List ℕ) → Typeable l → Each Inner l
@@ -58,7 +58,7 @@ all-kept : (l : List ℕ) → Each Character l → undropped l ≡ l
 unfolding undropped
 all-kept [] c = refl
 all-kept (b ∷ l) c =
-    let r = ranged 33 126 b (c .0) in
+    let r = in-range 33 126 b (c .0) in
     rw (ne-eqb b 10 (λ e. omega (arith, r .0)), ne-eqb b 32 (λ e. omega (arith, r .0))) (ap (λ (t : List ℕ). b ∷ t) (all-kept l (c .1)))
 
 pub typeable-line : (l : List ℕ) → Typeable l → lineIn l ≡ l
@@ -116,16 +116,16 @@ texts-characters (k ∷ ks) (c ∷ cs) = (each-written written-characters k c, t
 pub setting-characters : (model : Model) (s : Settings) (x : Setting) → Each Character (settingText model s x)
 unfolding settingText
 setting-characters model s x =
-    let ks = kinds model (Of x) in
+    let ks = kinds model (OfSetting x) in
     let cs = cells model s x in
     each-joined Character refl (texts ks cs) (texts-characters ks cs)
 
 -- a mnemonic, a comma and its reply
-pub line-typeable : (model : Model) (s : Settings) (x : Setting) → Short (name (Of x)) → Typeable (lineOf model s x)
+pub line-typeable : (model : Model) (s : Settings) (x : Setting) → Short (name (OfSetting x)) → Typeable (sheetLine model s x)
 line-typeable model s x h =
     record {
-      characters = each-append Character (name (Of x)) (44 ∷ settingText model s x) (h .characters) (refl, setting-characters model s x);
-      few = omega (arith, length-append (name (Of x)) (44 ∷ settingText model s x), h .few, setting-short model s x);
+      characters = each-append Character (name (OfSetting x)) (44 ∷ settingText model s x) (h .characters) (refl, setting-characters model s x);
+      few = omega (arith, length-append (name (OfSetting x)) (44 ∷ settingText model s x), h .few, setting-short model s x);
     }
 
 -- ---- a name alone

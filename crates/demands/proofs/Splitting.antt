@@ -16,8 +16,8 @@ use Rattle.tpg.specs.Steps.{next, sent, after, said, taken}
 use Rattle.tpg.specs.Calls.{admits, turnedAway, roomed, roomedBytes, byteTaken, hosted, hostText, hostCall, hostBytes}
 use Rattle.tpg.specs.declared.State.{State}
 use Rattle.tpg.proofs.Counts.{taken-few, all-taken}
-use Rattle.tpg.proofs.Runs.{after-append, said-append}
-use Rattle.tpg.proofs.Kept.{next-sound}
+use Rattle.tpg.proofs.HostRun.{after-append, said-append}
+use Rattle.tpg.proofs.StateLimits.{next-sound}
 use Rattle.demands.specs.Calls.{byte, host, outcome}
 use Rattle.demands.specs.Turns.{Turn, piece, turned, left, received, reached, oneByOne, sentOneByOne}
 use Rattle.demands.proofs.Called.{table-holds}

@@ -13,7 +13,7 @@ use Rattle.ports.specs.Limits.{lineWithin, isInterval, streamWithin, portWithin
 use Rattle.ports.specs.Stream.{withStream, ticked}
 use Rattle.ports.specs.declared.Port.{Port}
 use Rattle.ports.specs.declared.Ticked.{Ticked}
-use Rattle.shared.specs.Limits.{sharedWithin}
+use Rattle.instrument.specs.Limits.{instrumentWithin}
 use Rattle.tpg.specs.States.{stateWithin, Sound}
 use Rattle.tpg.specs.Calls.{dueText, tickText, counted, ticksText, readingCall}
 use Rattle.tpg.specs.declared.State.{State}
@@ -28,7 +28,7 @@ running : (s : State) → Sound s → Running (s .port)
 unfolding stateWithin portWithin
 running s k =
     let p = s .port in
-    let port = and-eq-true-iff (sharedWithin (s .shared)) (portWithin (s .shared .model) p) .0 (k .within) .1 in
+    let port = and-eq-true-iff (instrumentWithin (s .instrument)) (portWithin (s .instrument .model) p) .0 (k .within) .1 in
     let stream = and-eq-true-iff (streamWithin p) _ .0 (and-eq-true-iff (lineWithin p) _ .0 port .1) .0 in
     ⊎-elim
     (λ (a : eqb (p .interval) 0 && eqb (p .ticks) 0 ≡ true). inl (eqb-true (p .interval) 0 (and-eq-true-iff (eqb (p .interval) 0) _ .0 a .0)))
@@ -86,7 +86,7 @@ none-yet p =
 -- ---- ticks alone
 
 -- what one tick sends, and so many lines
-due-lines : (s : State) (d : Bool) (k : ℕ) → dueText (s .shared) d ++ streamLines s k ≡ streamLines s (cond d 1 0 + k)
+due-lines : (s : State) (d : Bool) (k : ℕ) → dueText (s .instrument) d ++ streamLines s k ≡ streamLines s (cond d 1 0 + k)
 unfolding flatMap
 due-lines s true k = let more : 1 + k ≡ suc k = omega arith in rw more
 due-lines s false k = rw (zero-add k)

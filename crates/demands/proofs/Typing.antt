@@ -27,14 +27,14 @@ use Rattle.ports.specs.declared.Selection.the-variants.{Nothing}
 use Rattle.ports.specs.declared.Heard.{Heard}
 use Rattle.ports.specs.declared.Event.{Event}
 use Rattle.ports.specs.declared.Event.the-variants.{Silent}
-use Rattle.ports.proofs.Kept.{inner-by}
+use Rattle.ports.proofs.PortLimits.{inner-by}
 use Rattle.ports.proofs.Instances.{bad-stays}
-use Rattle.shared.specs.Events.{heard}
-use Rattle.shared.specs.declared.Shared.{Shared}
+use Rattle.instrument.specs.Events.{applied}
+use Rattle.instrument.specs.declared.Instrument.{Instrument}
 use Rattle.tpg.specs.States.{Sound}
 use Rattle.tpg.specs.Steps.{lineText, eventText, acted, hearing, next, sent, after, said}
 use Rattle.tpg.specs.declared.State.{State}
-use Rattle.tpg.proofs.Runs.{after-append, said-append}
+use Rattle.tpg.proofs.HostRun.{after-append, said-append}
 use Rattle.demands.specs.Wire.{Inner, undropped, isGood, lineIn, End, byCr, byCrLf, ended, anew, enquiries, asOften, gathering, errorLeft}
 use Rattle.text.specs.Control.{isCharacter}
 use Rattle.demands.proofs.Ending.{Line, choice, marked-line, settled-line, Judged, Held, held-line, enqText, wordLeft, reply-without-word, told-word, word-stays-gone, cr-judges, enq-replies, lf-nothing, etx-empties}
@@ -60,13 +60,13 @@ grown-line {p} {l} h b few =
 -- what bytes leave in a box: nothing is sent, what all share stays, and the port holds a line
 record Typed (s : State) (bytes l : List ℕ) (selection : Selection) (error : Word) : Type 0 where
   silent : said s bytes ≡ []
-  shared : after s bytes .shared ≡ s .shared
+  instrument : after s bytes .instrument ≡ s .instrument
   line : Held (after s bytes .port) l selection error
 
 module _ (s : State) (b : ℕ) (bytes l : List ℕ) (selection : Selection) (error : Word) where
   -- the rest of the bytes, from another port on
   abbrev Rest : Port → Type 0
-  Rest p = Typed (record { shared = s .shared; port = p }) bytes l selection error
+  Rest p = Typed (record { instrument = s .instrument; port = p }) bytes l selection error
 
   abbrev Silently : Heard → Type 0
   Silently h = (h .event ≡ Silent) × Rest (h .port)
@@ -75,12 +75,12 @@ module _ (s : State) (b : ℕ) (bytes l : List ℕ) (selection : Selection) (err
   unfolding said after next sent eventText
   first-typed h =
       let t = h .1 in
-      let none : sent s b ≡ [] = ap (eventText (s .shared)) (h .0) in
-      let now : next s b ≡ record { shared = s .shared; port = hearing s b .port } =
-      ap (λ (e : Event). record { shared = acted (s .shared) e; port = hearing s b .port }) (h .0) in
+      let none : sent s b ≡ [] = ap (eventText (s .instrument)) (h .0) in
+      let now : next s b ≡ record { instrument = s .instrument; port = hearing s b .port } =
+      ap (λ (e : Event). record { instrument = acted (s .instrument) e; port = hearing s b .port }) (h .0) in
       record {
         silent = ap₂ (λ (u : List ℕ) (x : State). u ++ said x bytes) none now ∙ t .silent;
-        shared = ap (λ (x : State). after x bytes .shared) now ∙ t .shared;
+        instrument = ap (λ (x : State). after x bytes .instrument) now ∙ t .instrument;
         line = subst (λ x. Held (after x bytes .port) l selection error) (sym now) (t .line);
       }
 
@@ -89,7 +89,7 @@ module _ (s : State) (b : ℕ) (bytes l : List ℕ) (selection : Selection) (err
       → (isDropped b ≡ false → isCharacter b ≡ false → Rest (spoilt (settled (s .port)))) → Typed s (b ∷ bytes) l selection error
   byte-typed inner kept settles grows spoils =
       first-typed
-      (inner-by Silently (s .shared .model) (s .port) b (inner .0) (inner .1) (inner .2)
+      (inner-by Silently (s .instrument .model) (s .port) b (inner .0) (inner .1) (inner .2)
       (λ d. (refl, kept d)) (λ d. (refl, settles d)) (λ d c. (refl, grows d c)) (λ d c. (refl, spoils d c)))
 
 -- a bad line
@@ -101,7 +101,7 @@ record Bad (p : Port) (selection : Selection) (error : Word) : Type 0 where
 -- stays bad, and holds nothing
 bad-run : (bytes : List ℕ) (s : State) {selection : Selection} {error : Word} → Each Inner bytes → Bad (s .port) selection error → Typed s bytes [] selection error
 unfolding said after
-bad-run [] s inner h = record { silent = refl; shared = refl; line = record { text = rw (h .bad); chosen = h .chosen; word = h .word } }
+bad-run [] s inner h = record { silent = refl; instrument = refl; line = record { text = rw (h .bad); chosen = h .chosen; word = h .word } }
 bad-run (b ∷ bytes) s {selection} {error} inner h =
     let same : Bad (settled (s .port)) selection error = record { bad = h .bad; chosen = h .chosen; word = h .word } in
     byte-typed s b bytes [] selection error (inner .0)
@@ -135,9 +135,9 @@ unfolding isGood
 short-good front c h = rw (each-every isCharacter front c, le-leb (length front) 80 h)
 
 -- an 81st character
-full-spoils : {p : Port} {l : List ℕ} {selection : Selection} {error : Word} → Line p l selection error → (b : ℕ) → 80 ≤ length l → Bad (grown p b) selection error
+eighty-first-spoils : {p : Port} {l : List ℕ} {selection : Selection} {error : Word} → Line p l selection error → (b : ℕ) → 80 ≤ length l → Bad (grown p b) selection error
 unfolding grown
-full-spoils {p} h b few = rw (h .good, le-ltb (p .len) 80 (omega (arith, h .count))) (record { bad = refl; chosen = h .chosen; word = h .word })
+eighty-first-spoils {p} h b few = rw (h .good, le-ltb (p .len) 80 (omega (arith, h .count))) (record { bad = refl; chosen = h .chosen; word = h .word })
 
 -- ---- all bytes of a line
 
@@ -146,11 +146,11 @@ good-run : (bytes : List ℕ) (s : State) (front : List ℕ) {selection : Select
 unfolding said after undropped
 good-run [] s front inner h c few = record {
   silent = refl;
-  shared = refl;
+  instrument = refl;
   line = rw (append-nil front, short-good front c few) (held-line h);
 }
 good-run (b ∷ bytes) s front {selection} {error} inner h c few =
-    let longer : State = record { shared = s .shared; port = grown (settled (s .port)) b } in
+    let longer : State = record { instrument = s .instrument; port = grown (settled (s .port)) b } in
     byte-typed s b bytes (lineWith front (b ∷ bytes)) selection error (inner .0)
     (λ d. rw d (good-run bytes _ front (inner .1) (marked-line h false) c few))
     (λ d. rw d (good-run bytes _ front (inner .1) (settled-line h) c few))
@@ -158,14 +158,14 @@ good-run (b ∷ bytes) s front {selection} {error} inner h c few =
     (⊎-elim
     (λ (l : length front < 80). subst (λ t. Typed longer bytes (cond (isGood t) t []) selection error) (append-assoc front (b ∷ []) (undropped bytes))
     (good-run bytes longer (front ++ b ∷ []) (inner .1) (grown-line (settled-line h) b l) (each-append (λ (b : ℕ). isCharacter b ≡ true) front (b ∷ []) c (e, tt)) (omega (arith, length-append front (b ∷ [])))))
-    (λ (l : 80 ≤ length front). rw (long-bad front b (undropped bytes) l) (bad-run bytes _ (inner .1) (full-spoils (settled-line h) b l)))
+    (λ (l : 80 ≤ length front). rw (long-bad front b (undropped bytes) l) (bad-run bytes _ (inner .1) (eighty-first-spoils (settled-line h) b l)))
     (below (length front) 80)))
     (λ d e. rw (d, spoilt-bad front b (undropped bytes) e) (bad-run bytes _ (inner .1) (record { bad = refl; chosen = h .chosen; word = h .word })))
 
 -- ---- so many ENQs
 
 -- only the first can tell the error word
-replies-without-word : (n : ℕ) (s : Shared) (error : Word) (x : Selection) → asOften n (λ (w : Word). enqText s w x) (wordLeft error x) ≡ asOften n (λ (w : Word). enqText s w x) noError
+replies-without-word : (n : ℕ) (s : Instrument) (error : Word) (x : Selection) → asOften n (λ (w : Word). enqText s w x) (wordLeft error x) ≡ asOften n (λ (w : Word). enqText s w x) noError
 unfolding asOften
 replies-without-word zero s error x = refl
 replies-without-word (suc n) s error x = ap (λ (t : List ℕ). t ++ asOften n (λ (w : Word). enqText s w x) noError) (reply-without-word s error x)
@@ -181,21 +181,21 @@ word-gone (suc n) error x = word-stays-gone error x
 
 -- nothing else changes
 enqs-keep : (n : ℕ) (s : State) {x : Selection} {error : Word} → Line (s .port) [] x error
-    → (after s (enquiries n) .shared ≡ s .shared) × Line (after s (enquiries n) .port) [] x (wordAfter n error x)
+    → (after s (enquiries n) .instrument ≡ s .instrument) × Line (after s (enquiries n) .port) [] x (wordAfter n error x)
 unfolding after
 enqs-keep zero s h = (refl, h)
 enqs-keep (suc n) s {x} {error} h =
     let r = enq-replies s h in
     let k = enqs-keep n (next s 5) (r .line) in
-    (k .0 ∙ r .shared, subst (Line (after (next s 5) (enquiries n) .port) [] x) (word-gone n error x) (k .1))
+    (k .0 ∙ r .instrument, subst (Line (after (next s 5) (enquiries n) .port) [] x) (word-gone n error x) (k .1))
 
-enqs-replied : (n : ℕ) (s : State) {x : Selection} {error : Word} → Line (s .port) [] x error → said s (enquiries n) ≡ asOften n (λ (w : Word). enqText (s .shared) w x) error
+enqs-replied : (n : ℕ) (s : State) {x : Selection} {error : Word} → Line (s .port) [] x error → said s (enquiries n) ≡ asOften n (λ (w : Word). enqText (s .instrument) w x) error
 unfolding said asOften
 enqs-replied zero s h = refl
 enqs-replied (suc n) s {x} {error} h =
     let r = enq-replies s h in
     ap₂ (λ (t u : List ℕ). t ++ u) (r .reply)
-    (enqs-replied n (next s 5) (r .line) ∙ ap (λ (t : Shared). asOften n (λ (w : Word). enqText t w x) (wordLeft error x)) (r .shared) ∙ replies-without-word n (s .shared) error x)
+    (enqs-replied n (next s 5) (r .line) ∙ ap (λ (t : Instrument). asOften n (λ (w : Word). enqText t w x) (wordLeft error x)) (r .instrument) ∙ replies-without-word n (s .instrument) error x)
 
 -- the word that a line and its ENQs leave
 word-left : (n : ℕ) (error : Word) (v : Verdict) → wordAfter n (gathering error v) (choice v) ≡ errorLeft n error v
@@ -207,10 +207,10 @@ word-left (suc n) error (Writes m r) = told-word error m
 -- ---- a line and its end
 
 module _ (s : State) {selection : Selection} {error : Word} (empty : Line (s .port) [] selection error) (bytes : List ℕ) (inner : Each Inner bytes)
-    (v : Verdict) (verdict : judged (s .shared .model) (lineIn bytes) ≡ v) where
+    (v : Verdict) (verdict : judged (s .instrument .model) (lineIn bytes) ≡ v) where
   -- what the box sends for the bytes and their end, and what it is then
   abbrev Ended : End → Type 0
-  Ended e = Judged (s .shared) error v (said s (ended e bytes)) (after s (ended e bytes))
+  Ended e = Judged (s .instrument) error v (said s (ended e bytes)) (after s (ended e bytes))
 
   cr-judged : Ended byCr
   unfolding after said
@@ -218,9 +218,9 @@ module _ (s : State) {selection : Selection} {error : Word} (empty : Line (s .po
       let t = good-run bytes s [] inner empty tt (omega arith) in
       let now = after s bytes in
       let j = cr-judges now (t .line) in
-      let same : judged (now .shared .model) (lineIn bytes) ≡ v = ap (λ (x : Shared). judged (x .model) (lineIn bytes)) (t .shared) ∙ verdict in
+      let same : judged (now .instrument .model) (lineIn bytes) ≡ v = ap (λ (x : Instrument). judged (x .model) (lineIn bytes)) (t .instrument) ∙ verdict in
       rw (said-append bytes (13 ∷ []) s, after-append bytes (13 ∷ []) s, t .silent, append-nil (sent now 13))
-      (rw (same, t .shared) at j)
+      (rw (same, t .instrument) at j)
 
   -- the LF adds nothing
   lf-judged : Ended byCrLf
@@ -230,37 +230,37 @@ module _ (s : State) {selection : Selection} {error : Word} (empty : Line (s .po
       let f = lf-nothing now (cr-judged .line) in
       let parts : ended byCrLf bytes ≡ ended byCr bytes ++ 10 ∷ [] = sym (append-assoc bytes (13 ∷ []) (10 ∷ [])) in
       rw (parts, said-append (ended byCr bytes) (10 ∷ []) s, after-append (ended byCr bytes) (10 ∷ []) s, f .0, append-nil (said s (ended byCr bytes)))
-      (record { reply = cr-judged .reply; shared = f .1 ∙ cr-judged .shared; line = f .2 })
+      (record { reply = cr-judged .reply; instrument = f .1 ∙ cr-judged .instrument; line = f .2 })
 
   pub line-judged : (e : End) → Ended e
   line-judged byCr = cr-judged
   line-judged byCrLf = lf-judged
 
   -- and so many ENQs behind it
-  pub line-enquired : (e : End) (n : ℕ) → said s (ended e bytes ++ enquiries n) ≡ lineText v ++ asOften n (λ (w : Word). enqText (heard (s .shared) v) w (choice v)) (gathering error v)
+  pub line-enquired : (e : End) (n : ℕ) → said s (ended e bytes ++ enquiries n) ≡ lineText v ++ asOften n (λ (w : Word). enqText (applied (s .instrument) v) w (choice v)) (gathering error v)
   line-enquired e n =
       let j = line-judged e in
       said-append (ended e bytes) (enquiries n) s
       ∙ ap₂ (λ (t u : List ℕ). t ++ u) (j .reply)
       (enqs-replied n (after s (ended e bytes)) (j .line)
-      ∙ ap (λ (t : Shared). asOften n (λ (w : Word). enqText t w (choice v)) (gathering error v)) (j .shared))
+      ∙ ap (λ (t : Instrument). asOften n (λ (w : Word). enqText t w (choice v)) (gathering error v)) (j .instrument))
 
   -- and what they leave behind
   pub line-left : (e : End) (n : ℕ) → let t = after s (ended e bytes ++ enquiries n) in
-      (t .shared ≡ heard (s .shared) v) × Line (t .port) [] (choice v) (errorLeft n error v)
+      (t .instrument ≡ applied (s .instrument) v) × Line (t .port) [] (choice v) (errorLeft n error v)
   line-left e n =
       let j = line-judged e in
       let k = enqs-keep n (after s (ended e bytes)) (j .line) in
       rw (after-append (ended e bytes) (enquiries n) s)
-      (k .0 ∙ j .shared, subst (Line (after (after s (ended e bytes)) (enquiries n) .port) [] (choice v)) (word-left n error v) (k .1))
+      (k .0 ∙ j .instrument, subst (Line (after (after s (ended e bytes)) (enquiries n) .port) [] (choice v)) (word-left n error v) (k .1))
 
 -- ---- an ETX first
 
 pub anew-line : (s : State) → Line (next s 3 .port) [] Nothing (s .port .error)
 anew-line s = etx-empties s .2
 
-pub anew-shared : (s : State) → next s 3 .shared ≡ s .shared
-anew-shared s = etx-empties s .1
+pub anew-instrument : (s : State) → next s 3 .instrument ≡ s .instrument
+anew-instrument s = etx-empties s .1
 
 pub anew-said : (s : State) (bytes : List ℕ) → said s (anew bytes) ≡ said (next s 3) bytes
 unfolding said
@@ -276,4 +276,4 @@ empty-line s k e =
     let p = s .port in
     let b = and-eq-true-iff (not (p .bad)) (eqb (p .len) 0) .0 e in
     let none : p .len ≡ 0 = eqb-true (p .len) 0 (b .1) in
-    record { good = not-true (p .bad) (b .0); count = none; text = rw none; places = k .formed .port .line; chosen = refl; word = refl }
+    record { good = not-true (p .bad) (b .0); count = none; text = rw none; places = k .shaped .port .line; chosen = refl; word = refl }

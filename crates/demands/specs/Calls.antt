@@ -31,39 +31,39 @@ outcome s (ticks n room) = ticksCall s n room
 outcome s cycle = cycleCall s
 
 -- and the bytes that it sends
-abbrev pub bytes : State → Call → List ℕ
-bytes s (byte b room) = byteBytes s b room
-bytes s (host input room) = hostBytes s input room
-bytes s (reading channel r) = []
-bytes s (tick room) = tickBytes s room
-bytes s (ticks n room) = ticksBytes s n room
-bytes s cycle = []
+abbrev pub callBytes : State → Call → List ℕ
+callBytes s (byte b room) = byteBytes s b room
+callBytes s (host input room) = hostBytes s input room
+callBytes s (reading channel r) = []
+callBytes s (tick room) = tickBytes s room
+callBytes s (ticks n room) = ticksBytes s n room
+callBytes s cycle = []
 
 -- a row of the table: its number, and whether what stands under "Given when" is so
 pub record Refusal : Type 0 where
   pub number : ℕ
   pub given : Bool
 
-abbrev pub row : ℕ → Bool → Refusal
-row number given = record { number = number; given = given }
+abbrev pub refuses : ℕ → Bool → Refusal
+refuses number given = record { number = number; given = given }
 
 -- "the state handed in breaks a limit below", "output shorter than 64 bytes": the rows of a call with an output, and of how much it asks for
 abbrev pub lent : State → ℕ → ℕ → List Refusal
-lent s least room = row 1 (not (stateWithin s)) ∷ row 3 (ltb room least) ∷ []
+lent s least room = refuses 1 (not (stateWithin s)) ∷ refuses 3 (ltb room least) ∷ []
 
 -- of every call; "channel not on the model", "reading outside its limits"
 abbrev pub refusals : State → Call → List Refusal
 refusals s (byte b room) = lent s leastOutput room
 refusals s (host input room) = lent s leastOutput room
 refusals s (reading channel r) =
-    row 1 (not (stateWithin s)) ∷ row 4 (not (isChannel (s .shared .model) channel)) ∷ row 5 (not (withinLimits r)) ∷ []
+    refuses 1 (not (stateWithin s)) ∷ refuses 4 (not (isChannel (s .instrument .model) channel)) ∷ refuses 5 (not (withinLimits r)) ∷ []
 refusals s (tick room) = lent s leastOutput room
 refusals s (ticks n room) = lent s (leastOutput * n) room
-refusals s cycle = row 1 (not (stateWithin s)) ∷ []
+refusals s cycle = refuses 1 (not (stateWithin s)) ∷ []
 
 -- the call that makes a box: "model not 361 or 362, or serial above 99999999"
 abbrev pub freshRefusals : ℕ → ℕ → List Refusal
-freshRefusals model serial = row 2 (not (eqb model 361 || eqb model 362) || ltb 99999999 serial) ∷ []
+freshRefusals model serial = refuses 2 (not (eqb model 361 || eqb model 362) || ltb 99999999 serial) ∷ []
 
 -- "Tested in the order 1 to 5": the first that is given, and 0 "otherwise"
 abbrev pub firstGiven : List Refusal → ℕ

@@ -8,7 +8,7 @@ use Rattle.ground.specs.Members.{Each}
 use Rattle.settings.specs.Mnemonics.{name}
 use Rattle.settings.specs.declared.mnemonic.Setting.{Setting}
 use Rattle.settings.specs.declared.mnemonic.Mnemonic.{Mnemonic}
-use Rattle.settings.specs.declared.mnemonic.Mnemonic.the-variants.{Setting as Of}
+use Rattle.settings.specs.declared.mnemonic.Mnemonic.the-variants.{OfSetting}
 use Rattle.tpg.specs.Answers.{leastOutput}
 use Rattle.tpg.specs.Steps.{said}
 use Rattle.tpg.specs.declared.State.{State}
@@ -66,7 +66,7 @@ abbrev pub BlindToLines : Says → Type 0
 BlindToLines says = (s : State) (m k : Mnemonic) → told says s m ≡ told says s k
 
 abbrev pub BlindToStates : Says → Setting → Type 0
-BlindToStates says x = (s t : State) → told says s (Of x) ≡ told says t (Of x)
+BlindToStates says x = (s t : State) → told says s (OfSetting x) ≡ told says t (OfSetting x)
 
 -- "one that ACKs and stores nothing, or stores the first sheet line and only ACKs the others": there is a setting that it never stores when a
 -- sheet is sent, whatever it does with single lines

@@ -11,7 +11,7 @@ use Rattle.lines.specs.Judging.{judged}
 use Rattle.lines.specs.declared.verdict.Verdict.{Verdict}
 use Rattle.lines.specs.declared.verdict.Verdict.the-variants.{Writes}
 use Rattle.ports.specs.Line.{isEmpty}
-use Rattle.shared.specs.Events.{heard}
+use Rattle.instrument.specs.Events.{applied}
 use Rattle.tpg.specs.States.{Sound}
 use Rattle.tpg.specs.declared.State.{State}
 use Rattle.demands.specs.Wire.{ackLine, Inner, lineIn, Ready, Way, sending, asOften, answered, errorLeft, readText, writtenText}
@@ -28,33 +28,33 @@ Becomes = State → List ℕ → State
 abbrev pub Answers : Says → Type 0
 Answers says =
     (s : State) → Sound s → (w : Way) → Ready (w .start) s → (bytes : List ℕ) → Each Inner bytes
-    → says s (sending w bytes) ≡ answered (w .enqs) (s .shared) (s .port .error) (judged (s .shared .model) (lineIn bytes))
+    → says s (sending w bytes) ≡ answered (w .enqs) (s .instrument) (s .port .error) (judged (s .instrument .model) (lineIn bytes))
 
 -- what a line leaves behind: what it wrote is stored and nothing else changed, its error digit is set, and the line is empty
 pub record Left (s : State) (n : ℕ) (v : Verdict) (t : State) : Type 0 where
-  pub shared : t .shared ≡ heard (s .shared) v
+  pub instrument : t .instrument ≡ applied (s .instrument) v
   pub error : t .port .error ≡ errorLeft n (s .port .error) v
   pub empty : isEmpty (t .port) ≡ true
 
 abbrev pub Leaves : Becomes → Type 0
 Leaves becomes =
     (s : State) → Sound s → (w : Way) → Ready (w .start) s → (bytes : List ℕ) → Each Inner bytes
-    → Left s (w .enqs) (judged (s .shared .model) (lineIn bytes)) (becomes s (sending w bytes))
+    → Left s (w .enqs) (judged (s .instrument .model) (lineIn bytes)) (becomes s (sending w bytes))
 
 -- "for reading a setting": of all mnemonics but COM and SAV, which have no reply; alone on a line they write their default
 abbrev pub Reads : Says → State → Mnemonic → Type 0
 Reads says s m =
-    hasReply m ≡ true → (w : Way) → Ready (w .start) s → says s (sending w (name m)) ≡ readText (w .enqs) (s .shared) (s .port .error) m
+    hasReply m ≡ true → (w : Way) → Ready (w .start) s → says s (sending w (name m)) ≡ readText (w .enqs) (s .instrument) (s .port .error) m
 
 -- "and for writing one": a line that writes it is answered with what it wrote
 abbrev pub WritesBack : Says → State → Mnemonic → Type 0
 WritesBack says s m =
-    (w : Way) → Ready (w .start) s → (bytes : List ℕ) (r : Row) → Each Inner bytes → judged (s .shared .model) (lineIn bytes) ≡ Writes m r
-    → says s (sending w bytes) ≡ ackLine ++ asOften (w .enqs) (writtenText (s .shared) m r) (s .port .error)
+    (w : Way) → Ready (w .start) s → (bytes : List ℕ) (r : Row) → Each Inner bytes → judged (s .instrument .model) (lineIn bytes) ≡ Writes m r
+    → says s (sending w bytes) ≡ ackLine ++ asOften (w .enqs) (writtenText (s .instrument) m r) (s .port .error)
 
 -- every mnemonic that the model knows, read and written
 abbrev pub Replies : Says → Type 0
-Replies says = (s : State) → Sound s → Each (λ (m : Mnemonic). Reads says s m × WritesBack says s m) (known (s .shared .model))
+Replies says = (s : State) → Sound s → Each (λ (m : Mnemonic). Reads says s m × WritesBack says s m) (known (s .instrument .model))
 
 -- "Splitting the same host bytes over more calls, with no other event between and every byte taken in the end, changes no reply": what is sent for
 -- all is what is sent for the first ones, and then by the box as they left it for the others; and so is the state
@@ -65,4 +65,4 @@ Splits says becomes =
 
 -- and the box stays one, of the model that it is of, so that all this is said of what comes next too
 abbrev pub Keeps : Becomes → Type 0
-Keeps becomes = (s : State) → Sound s → (bytes : List ℕ) → Sound (becomes s bytes) × (becomes s bytes .shared .model ≡ s .shared .model)
+Keeps becomes = (s : State) → Sound s → (bytes : List ℕ) → Sound (becomes s bytes) × (becomes s bytes .instrument .model ≡ s .instrument .model)

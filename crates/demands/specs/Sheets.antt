@@ -10,7 +10,7 @@ use Rattle.ground.specs.Members.{Each}
 use Rattle.settings.specs.Mnemonics.{sheet, name}
 use Rattle.settings.specs.Rows.{row}
 use Rattle.settings.specs.declared.mnemonic.Setting.{Setting}
-use Rattle.settings.specs.declared.mnemonic.Mnemonic.the-variants.{Setting as Of}
+use Rattle.settings.specs.declared.mnemonic.Mnemonic.the-variants.{OfSetting}
 use Rattle.settings.specs.declared.Settings.{Settings}
 use Rattle.settings.specs.declared.model.Model.{Model}
 use Rattle.lines.specs.Replies.{settingText}
@@ -21,10 +21,10 @@ use Rattle.demands.specs.Wire.{ackLine, End, ended, anew, enquiries}
 use Rattle.demands.specs.Replies.{Says, Becomes}
 
 abbrev pub boxModel : State → Model
-boxModel s = s .shared .model
+boxModel s = s .instrument .model
 
 abbrev pub boxSettings : State → Settings
-boxSettings s = s .shared .settings
+boxSettings s = s .instrument .settings
 
 -- "Take two boxes of one model, each with any history": any two states that boxes can be in
 pub record Boxes (a b : State) : Type 0 where
@@ -36,15 +36,15 @@ pub record Boxes (a b : State) : Type 0 where
 
 -- each mnemonic and an ENQ
 abbrev pub questions : End → List Setting → List ℕ
-questions e = flatMap (λ (x : Setting). ended e (name (Of x)) ++ enquiries 1)
+questions e = flatMap (λ (x : Setting). ended e (name (OfSetting x)) ++ enquiries 1)
 
 -- "Send the first an ETX and read the seventeen sheet mnemonics."
 abbrev pub sheetAsked : End → State → List ℕ
 sheetAsked e s = anew (questions e (sheet (boxModel s)))
 
 -- what comes back: an ACK and the reply of each
-abbrev pub replies : Model → Settings → List Setting → List ℕ
-replies model s = flatMap (λ (x : Setting). ackLine ++ (settingText model s x ++ crLf))
+abbrev pub sheetReplies : Model → Settings → List Setting → List ℕ
+sheetReplies model s = flatMap (λ (x : Setting). ackLine ++ (settingText model s x ++ crLf))
 
 -- of what was received the first line, and what is behind its CR LF
 abbrev pub firstLine : List ℕ → List ℕ
@@ -58,7 +58,7 @@ unfoldable pub copyLines : List Setting → List ℕ → List (List ℕ)
 copyLines [] received = []
 copyLines (x ∷ xs) received =
     let reply = behindLine received in
-    (name (Of x) ++ (code "," ∷ firstLine reply)) ∷ copyLines xs (behindLine reply)
+    (name (OfSetting x) ++ (code "," ∷ firstLine reply)) ∷ copyLines xs (behindLine reply)
 
 -- the lines that a host makes of what the first box sent it
 abbrev pub copyOf : Says → End → State → List (List ℕ)
@@ -78,7 +78,7 @@ acks = flatMap (λ (x : Setting). ackLine)
 abbrev pub SheetRead : Says → Becomes → Type 0
 SheetRead says becomes =
     (a : State) → Sound a → (e : End)
-    → (says a (sheetAsked e a) ≡ replies (boxModel a) (boxSettings a) (sheet (boxModel a))) × (boxSettings (becomes a (sheetAsked e a)) ≡ boxSettings a)
+    → (says a (sheetAsked e a) ≡ sheetReplies (boxModel a) (boxSettings a) (sheet (boxModel a))) × (boxSettings (becomes a (sheetAsked e a)) ≡ boxSettings a)
 
 -- "All are accepted and the settings are equal", and the second box's own sheet is then the first one's
 abbrev pub SheetCopied : Says → Becomes → Type 0

@@ -6,7 +6,7 @@ use mathlib.Core.Bool.{cond}
 use lib.Dec.{eqb}
 use lib.ListN.{replicate}
 use Rattle.gauges.specs.declared.reading.Reading.{Reading}
-use Rattle.shared.specs.Replies.{streamText}
+use Rattle.instrument.specs.Replies.{streamText}
 use Rattle.tpg.specs.States.{Sound}
 use Rattle.tpg.specs.Calls.{tickText, counted, ticksText, readingCall}
 use Rattle.tpg.specs.declared.State.{State}
@@ -17,7 +17,7 @@ passed s n = cond (eqb (s .port .interval) 0) 0 ((s .port .ticks + n) / s .port 
 
 -- the line of the readings as they are, so many times
 abbrev pub streamLines : State → ℕ → List ℕ
-streamLines s k = flatMap (λ (line : List ℕ). line) (replicate k (streamText (s .shared)))
+streamLines s k = flatMap (λ (line : List ℕ). line) (replicate k (streamText (s .instrument)))
 
 -- in n ticks the line is sent as often as whole intervals pass
 abbrev pub TicksStream : Type 0

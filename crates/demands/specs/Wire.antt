@@ -10,10 +10,10 @@ use Rattle.ground.specs.Members.{every}
 use Rattle.settings.specs.Models.{channels}
 use Rattle.settings.specs.Mnemonics.{hasReply, isErr, channelOf}
 use Rattle.settings.specs.Kinds.{kinds}
-use Rattle.settings.specs.Rows.{listed, count, cells}
+use Rattle.settings.specs.Rows.{listed, fieldCount, cells}
 use Rattle.settings.specs.declared.mnemonic.Setting.the-variants.{Cal}
 use Rattle.settings.specs.declared.mnemonic.Mnemonic.{Mnemonic}
-use Rattle.settings.specs.declared.mnemonic.Mnemonic.the-variants.{Setting as Of, Cf, Query as Asked, Com, Sav}
+use Rattle.settings.specs.declared.mnemonic.Mnemonic.the-variants.{OfSetting, Cf, OfQuery, Com, Sav}
 use Rattle.settings.specs.declared.mnemonic.Query.the-variants.{Err}
 use Rattle.settings.specs.declared.rows.Row.{Row}
 use Rattle.lines.specs.Splitting.{joined}
@@ -26,9 +26,9 @@ use Rattle.lines.specs.declared.verdict.Verdict.{Verdict}
 use Rattle.lines.specs.declared.verdict.Verdict.the-variants.{Asks, Writes, Refused}
 use Rattle.ports.specs.Line.{isEmpty}
 use Rattle.ports.specs.Hearing.{isDropped}
-use Rattle.shared.specs.Events.{written}
-use Rattle.shared.specs.Replies.{replyText}
-use Rattle.shared.specs.declared.Shared.{Shared}
+use Rattle.instrument.specs.Events.{written}
+use Rattle.instrument.specs.Replies.{replyText}
+use Rattle.instrument.specs.declared.Instrument.{Instrument}
 use Rattle.tpg.specs.declared.State.{State}
 
 -- "sends ACK CR LF", "sends NAK CR LF"
@@ -81,9 +81,9 @@ pub data Start : Type 0 where
   onEmpty : Start
   afterEtx : Start
 
-abbrev pub begun : Start → List ℕ → List ℕ
-begun onEmpty bytes = bytes
-begun afterEtx bytes = anew bytes
+abbrev pub opened : Start → List ℕ → List ℕ
+opened onEmpty bytes = bytes
+opened afterEtx bytes = anew bytes
 
 -- a box is ready for the first where its line is empty, and for the second always
 abbrev pub Ready : Start → State → Type 0
@@ -100,7 +100,7 @@ abbrev pub enquiries : ℕ → List ℕ
 enquiries n = replicate n enq
 
 abbrev pub sending : Way → List ℕ → List ℕ
-sending w bytes = begun (w .start) (ended (w .end) bytes ++ enquiries (w .enqs))
+sending w bytes = opened (w .start) (ended (w .end) bytes ++ enquiries (w .enqs))
 
 -- ---- what comes back
 
@@ -110,15 +110,15 @@ asOften zero text error = []
 asOften (suc n) text error = text error ++ asOften n text noError
 
 -- ENQ after a refused line, which "clears the selection": it "sends the error word", as ERR does
-abbrev pub errorText : Shared → Word → List ℕ
-errorText s error = replyText s error (Asked Err)
+abbrev pub errorText : Instrument → Word → List ℕ
+errorText s error = replyText s error (OfQuery Err)
 
 -- after an accepted one: "the selected mnemonic's reply"; "after COM and SAV the selection is none"
-abbrev pub selectedText : Shared → Mnemonic → Word → List ℕ
+abbrev pub selectedText : Instrument → Mnemonic → Word → List ℕ
 selectedText s m error = cond (hasReply m) (replyText s error m) (errorText s error)
 
 -- what comes back for a line and so many ENQs behind it
-abbrev pub answered : ℕ → Shared → Word → Verdict → List ℕ
+abbrev pub answered : ℕ → Instrument → Word → Verdict → List ℕ
 answered n s error (Asks m) = ackLine ++ asOften n (selectedText s m) error
 answered n s error (Writes m r) = ackLine ++ asOften n (selectedText (written s m r) m) error
 answered n s error (Refused x) = nakLine ++ asOften n (errorText s) (gathered error x)
@@ -145,15 +145,15 @@ errorLeft (suc n) error v = cond (tellsError v) noError (gathering error v)
 -- ---- reading and writing a setting
 
 -- for a mnemonic alone that has a reply: "PR2 or CF2 on a 361, 0100", and any other is told
-abbrev pub readText : ℕ → Shared → Word → Mnemonic → List ℕ
+abbrev pub readText : ℕ → Instrument → Word → Mnemonic → List ℕ
 readText n s error m =
     cond (ltb (channelOf m) (channels (s .model))) (ackLine ++ asOften n (λ (w : Word). replyText s w m) error) (nakLine ++ asOften n (errorText s) (gathered error Hardware))
 
 -- what the ENQ tells after a line that wrote: the line's own values; "CFx takes one factor and answers one per channel"; a mnemonic without
 -- fields has nothing to write
-abbrev pub writtenText : Shared → Mnemonic → Row → Word → List ℕ
-writtenText s (Of x) r error = joined (texts (kinds (s .model) (Of x)) (take (count (s .model) x) (listed r))) ++ crLf
-writtenText s (Cf k) r error = joined (texts (kinds (s .model) (Of Cal)) (set (cells (s .model) (s .settings) Cal) k (r .first))) ++ crLf
-writtenText s (Asked q) r error = replyText s error (Asked q)
+abbrev pub writtenText : Instrument → Mnemonic → Row → Word → List ℕ
+writtenText s (OfSetting x) r error = joined (texts (kinds (s .model) (OfSetting x)) (take (fieldCount (s .model) x) (listed r))) ++ crLf
+writtenText s (Cf k) r error = joined (texts (kinds (s .model) (OfSetting Cal)) (set (cells (s .model) (s .settings) Cal) k (r .first))) ++ crLf
+writtenText s (OfQuery q) r error = replyText s error (OfQuery q)
 writtenText s Com r error = errorText s error
 writtenText s Sav r error = errorText s error

@@ -13,11 +13,10 @@ use Rattle.ground.proofs.Cases.{never, true-or-false}
 use Rattle.tpg.specs.Steps.{over}
 use Rattle.tpg.specs.declared.State.{State}
 use Rattle.tpg.proofs.Laying.{over-length}
-use Rattle.text.specs.Hex.{isDigit, isHex, unhex, hex}
-use Rattle.frames.specs.Frames.{Reply, bytesOf, longestFrame, noFrame, framed, reply, lineOf, mostSent, longestLine, answerCall, answerLine}
-use Rattle.frames.specs.Walk.{readBytes, toldOf}
-use Rattle.frames.specs.declared.Answered.{Answered}
-use Rattle.frames.specs.declared.taking.Told.{Told}
+use Rattle.text.specs.Hex.{isHexDigit, isHex, unhex, hex}
+use Rattle.frames.specs.Frames.{Exchange, bytesOf, longestFrame, noFrame, framed, lineReply, outputLine, mostSent, longestLine, answerCall, answerLine}
+use Rattle.frames.specs.Walk.{readBytes, frameOutcome}
+use Rattle.frames.specs.declared.FrameOutcome.{FrameOutcome}
 use Rattle.text.proofs.HexDigits.{hex-length}
 use Rattle.frames.proofs.Bounds.{framed-few, bytes-small}
 
@@ -27,7 +26,7 @@ unhex-length : (l : List ℕ) → isHex l ≡ true → 2 * length (unhex l) ≡ 
 unfolding isHex unhex
 unhex-length [] e = refl
 unhex-length (a ∷ []) e = never (cc)
-unhex-length (a ∷ b ∷ l) e = omega (arith, unhex-length l (and-eq-true-iff (isDigit a && isDigit b) (isHex l) .0 e .1))
+unhex-length (a ∷ b ∷ l) e = omega (arith, unhex-length l (and-eq-true-iff (isHexDigit a && isHexDigit b) (isHex l) .0 e .1))
 
 pub too-many : (s : State) (f : List ℕ) → longestFrame < length f → framed s f ≡ noFrame s
 unfolding framed
@@ -46,12 +45,12 @@ too-many s f h =
     )
 
 -- what was read gives the reply of the whole line
-pub read-enough : (s : State) (line : List ℕ) → framed s (readBytes line) ≡ reply s line
+pub read-enough : (s : State) (line : List ℕ) → framed s (readBytes line) ≡ lineReply s line
 unfolding bytesOf framed
 read-enough s line = go (true-or-false (leb (length line) (2 * longestFrame))) (true-or-false (isHex line))
   where
     go : (leb (length line) (2 * longestFrame) ≡ true) ⊎ (leb (length line) (2 * longestFrame) ≡ false) → (isHex line ≡ true) ⊎ (isHex line ≡ false)
-        → framed s (readBytes line) ≡ reply s line
+        → framed s (readBytes line) ≡ lineReply s line
     go (inl e) h = rw e
     go (inr e) (inl h) = rw (e, h) (sym (too-many s (unhex line) (omega (arith, leb-false (length line) (2 * longestFrame) e, unhex-length line h))))
     go (inr e) (inr h) = rw (e, h)
@@ -69,8 +68,8 @@ over-front : (xs out : List ℕ) → take (length xs) (over xs out) ≡ xs
 unfolding over
 over-front xs out = take-append-seam xs (drop (length xs) out)
 
-line-length : (r : Reply) → length (lineOf r) ≡ 2 + 2 * length (r .bytes) + 1
-line-length r = simp length-append (omega (arith, hex-length (r .number ∷ r .bytes)))
+output-length : (r : Exchange) → length (outputLine r) ≡ 2 + 2 * length (r .bytes) + 1
+output-length r = simp length-append (omega (arith, hex-length (r .number ∷ r .bytes)))
 
 -- ---- the two ends of the call
 
@@ -79,35 +78,35 @@ module _ (s : State) (line out : List ℕ) where
   unfolding answerCall answerLine over
   refused h = rw (lt-leb longestLine (length out) h) (refl, refl)
 
-  module _ (room : longestLine ≤ length out) (f : List ℕ) (read : f ≡ readBytes line) (t : Told) (sent : List ℕ)
-      (e : (t ≡ toldOf (framed s f)) × (sent ≡ over (framed s f .bytes) out)) where
-    abbrev r : Reply
-    r = reply s line
+  module _ (room : longestLine ≤ length out) (f : List ℕ) (read : f ≡ readBytes line) (t : FrameOutcome) (sent : List ℕ)
+      (e : (t ≡ frameOutcome (framed s f)) × (sent ≡ over (framed s f .bytes) out)) where
+    abbrev r : Exchange
+    r = lineReply s line
 
     same : framed s f ≡ r
     same = ap (framed s) read ∙ read-enough s line
 
-    told : t ≡ toldOf r
-    told = e .0 ∙ ap toldOf same
+    told : t ≡ frameOutcome r
+    told = e .0 ∙ ap frameOutcome same
 
     laid : sent ≡ over (r .bytes) out
-    laid = e .1 ∙ ap (λ (q : Reply). over (q .bytes) out) same
+    laid = e .1 ∙ ap (λ (q : Exchange). over (q .bytes) out) same
 
-    pub few : t .count ≤ mostSent
-    few = omega (arith, ap (λ (x : Told). x .count) told, framed-few s (bytesOf line) (bytes-small line 1))
+    pub few : t .written ≤ mostSent
+    few = omega (arith, ap (λ (x : FrameOutcome). x .written) told, framed-few s (bytesOf line) (bytes-small line 1))
 
     pub kept : length sent ≡ length out
     kept = ap length laid ∙ over-length (r .bytes) out (omega (arith, room, framed-few s (bytesOf line) (bytes-small line 1)))
 
-    pub answered : (a : Answered) (w : ℕ) (after : List ℕ) → a ≡ record { number = t .number; state = t .state; written = w } → w ≡ 2 + 2 * t .count + 1
-        → after ≡ over (hex (t .number ∷ take (t .count) sent) ++ 10 ∷ []) sent → (a ≡ answerCall s line (length out)) × (after ≡ over (answerLine s line (length out)) out)
+    pub answered : (a : FrameOutcome) (w : ℕ) (after : List ℕ) → a ≡ record { number = t .number; state = t .state; written = w } → w ≡ 2 + 2 * t .written + 1
+        → after ≡ over (hex (t .number ∷ take (t .written) sent) ++ 10 ∷ []) sent → (a ≡ answerCall s line (length out)) × (after ≡ over (answerLine s line (length out)) out)
     unfolding answerCall answerLine
     answered a w after p q u =
-        let count : w ≡ length (lineOf r) = q ∙ ap (λ (x : Told). 2 + 2 * x .count + 1) told ∙ sym (line-length r) in
+        let count : w ≡ length (outputLine r) = q ∙ ap (λ (x : FrameOutcome). 2 + 2 * x .written + 1) told ∙ sym (output-length r) in
         rw (le-leb longestLine (length out) room) (
           p ∙ (λ i. record { number = told i .number; state = told i .state; written = count i }),
-          u ∙ ap (λ (x : Told). over (hex (x .number ∷ take (x .count) sent) ++ 10 ∷ []) sent) told
+          u ∙ ap (λ (x : FrameOutcome). over (hex (x .number ∷ take (x .written) sent) ++ 10 ∷ []) sent) told
               ∙ ap (λ (l : List ℕ). over (hex (r .number ∷ take (length (r .bytes)) l) ++ 10 ∷ []) l) laid
               ∙ ap (λ (l : List ℕ). over (hex (r .number ∷ l) ++ 10 ∷ []) (over (r .bytes) out)) (over-front (r .bytes) out)
-              ∙ over-over (r .bytes) (lineOf r) out (omega (arith, line-length r)),
+              ∙ over-over (r .bytes) (outputLine r) out (omega (arith, output-length r)),
         )

@@ -14,8 +14,8 @@ use Rattle.tpg.specs.declared.State.{State}
 use Rattle.tpg.proofs.Sending.{sent-length}
 use Rattle.tpg.proofs.Ticking.{ticks-length}
 use Rattle.text.specs.Hex.{isHex, unhex}
-use Rattle.frames.specs.Frames.{Reply, bytesOf, longestFrame, sending, hostFrame, ticksFrame, framed, reply, lineOf, mostSent, longestLine, answerCall}
-use Rattle.frames.specs.declared.Answered.{Answered}
+use Rattle.frames.specs.Frames.{Exchange, bytesOf, longestFrame, sendingFrame, hostFrame, ticksFrame, framed, lineReply, outputLine, mostSent, longestLine, answerCall}
+use Rattle.frames.specs.declared.FrameOutcome.{FrameOutcome}
 use Rattle.text.proofs.HexDigits.{hex-length, unhex-small}
 use Rattle.frames.proofs.Forms.{framed-cases, reading-unsent, fresh-unsent}
 
@@ -25,10 +25,10 @@ said-length [] s = omega arith
 said-length (b ∷ bs) s = simp length-append (omega (arith, sent-length s b, said-length bs (next s b)))
 
 -- the reply sends no more than so many bytes
-abbrev pub Few : Reply → Type 0
+abbrev pub Few : Exchange → Type 0
 Few r = length (r .bytes) ≤ mostSent
 
-sending-few : (s next : State) (bytes : List ℕ) → length bytes ≤ mostSent → Few (sending s next bytes)
+sending-few : (s next : State) (bytes : List ℕ) → length bytes ≤ mostSent → Few (sendingFrame s next bytes)
 sending-few s next bytes h = cond-cases Few (stateWithin s) _ _ (λ e. h) (λ e. omega arith)
 
 host-few : (s : State) (f : List ℕ) → length f ≤ longestFrame → length (said s (drop 1 f)) ≤ mostSent
@@ -45,10 +45,10 @@ unfolding bytesOf
 bytes-small line i = cond-cases (λ (l : List ℕ). getD l i 0 ≤ 255) (isHex line) (unhex line) [] (λ e. unhex-small line e i) (λ e. omega arith)
 
 -- every line that a frame is answered with has room
-pub line-fits : (s : State) (line : List ℕ) → length (lineOf (reply s line)) ≤ longestLine
-line-fits s line = simp length-append (omega (arith, hex-length (reply s line .number ∷ reply s line .bytes), framed-few s (bytesOf line) (bytes-small line 1)))
+pub line-fits : (s : State) (line : List ℕ) → length (outputLine (lineReply s line)) ≤ longestLine
+line-fits s line = simp length-append (omega (arith, hex-length (lineReply s line .number ∷ lineReply s line .bytes), framed-few s (bytesOf line) (bytes-small line 1)))
 
 pub written-fits : (s : State) (line : List ℕ) (room : ℕ) → answerCall s line room .written ≤ room
 unfolding answerCall
 written-fits s line room =
-    cond-cases (λ (a : Answered). a .written ≤ room) (leb longestLine room) _ _ (λ e. omega (arith, leb-true longestLine room e, line-fits s line)) (λ e. omega arith)
+    cond-cases (λ (a : FrameOutcome). a .written ≤ room) (leb longestLine room) _ _ (λ e. omega (arith, leb-true longestLine room e, line-fits s line)) (λ e. omega arith)

@@ -10,9 +10,9 @@ use Rattle.ground.proofs.Cases.{cond-cases}
 use Rattle.tpg.specs.Steps.{over}
 use Rattle.tpg.specs.Calls.{cycleCall}
 use Rattle.tpg.specs.declared.State.{State}
-use Rattle.frames.specs.Frames.{Reply, longestFrame, noFrame, silent, hostFrame, readingFrame, ticksFrame, freshFrame, framed}
-use Rattle.frames.specs.Walk.{toldOf}
-use Rattle.frames.specs.declared.taking.Told.{Told}
+use Rattle.frames.specs.Frames.{Exchange, longestFrame, noFrame, silent, hostFrame, readingFrame, ticksFrame, freshFrame, framed}
+use Rattle.frames.specs.Walk.{frameOutcome}
+use Rattle.frames.specs.declared.FrameOutcome.{FrameOutcome}
 
 module _ (s : State) (f : List ℕ) (b : ℕ) (e : b ≡ getD f 0 0) where
   -- one of these two at each test of the code
@@ -54,7 +54,7 @@ module _ (s : State) (f : List ℕ) (b : ℕ) (e : b ≡ getD f 0 0) where
           to-none c = rw (← e, h, r, t, m, c)
 
 -- what holds of each form's reply holds of a frame's
-module _ (P : Reply → Type 0) (s : State) (f : List ℕ) where
+module _ (P : Exchange → Type 0) (s : State) (f : List ℕ) where
   pub framed-cases : (length f ≤ longestFrame → P (hostFrame s (drop 1 f))) → P (readingFrame s f) → P (ticksFrame s (getD f 1 0)) → P (freshFrame s (getD f 1 0))
       → P (silent (cycleCall s)) → P (noFrame s) → P (framed s f)
   unfolding framed
@@ -67,17 +67,17 @@ module _ (P : Reply → Type 0) (s : State) (f : List ℕ) where
       (λ m. cond-cases P (eqb (getD f 0 0) 5 && eqb (length f) 1) _ _ (λ e. cycle) (λ c. none)))))
 
 -- what was told and laid down, of the reply that it is
-module _ (r q : Reply) (e : r ≡ q) (t : Told) (out after : List ℕ) where
-  pub handed-on : (t ≡ toldOf q) × (after ≡ over (q .bytes) out) → (t ≡ toldOf r) × (after ≡ over (r .bytes) out)
+module _ (r q : Exchange) (e : r ≡ q) (t : FrameOutcome) (out after : List ℕ) where
+  pub handed-on : (t ≡ frameOutcome q) × (after ≡ over (q .bytes) out) → (t ≡ frameOutcome r) × (after ≡ over (r .bytes) out)
   handed-on p = rw e p
 
-pub unsent : (r : Reply) (t : Told) (out : List ℕ) → r .bytes ≡ [] → t ≡ toldOf r → (t ≡ toldOf r) × (out ≡ over (r .bytes) out)
+pub unsent : (r : Exchange) (t : FrameOutcome) (out : List ℕ) → r .bytes ≡ [] → t ≡ frameOutcome r → (t ≡ frameOutcome r) × (out ≡ over (r .bytes) out)
 unfolding over
 unsent r t out e p = (p, rw e)
 
 pub reading-unsent : (s : State) (f : List ℕ) → readingFrame s f .bytes ≡ []
 unfolding readingFrame
-reading-unsent s f = cond-cases (λ (r : Reply). r .bytes ≡ []) (leb (getD f 4 0) 1) _ _ (λ e. refl) (λ e. refl)
+reading-unsent s f = cond-cases (λ (r : Exchange). r .bytes ≡ []) (leb (getD f 4 0) 1) _ _ (λ e. refl) (λ e. refl)
 
 pub fresh-unsent : (s : State) (b : ℕ) → freshFrame s b .bytes ≡ []
 unfolding freshFrame

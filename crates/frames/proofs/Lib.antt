@@ -1,9 +1,9 @@
-pub mod Reading
+pub mod HexReading
 pub mod Spreading
 pub mod Calling
 pub mod Bounds
 pub mod Forms
 pub mod Answering
-pub mod Kept
+pub mod FrameLimits
 pub mod Instances
 pub mod TwosComplement

@@ -7,7 +7,7 @@ use lib.ListN.{length, getD, set, take, drop, length-set, length-append, drop-of
 use lib.Seq.{length-take-le, take-take, take-set-le, getD-take, drop-cons, set-at, append-snoc}
 use Rattle.ground.proofs.Cases.{never}
 use Rattle.tpg.specs.Steps.{over}
-use Rattle.text.specs.Hex.{digitOf, pair, hex}
+use Rattle.text.specs.Hex.{digitOf, hexPair, hex}
 use Rattle.text.proofs.HexDigits.{hex-length}
 
 -- two places next to each other
@@ -35,14 +35,14 @@ start out₀ count room =
 abbrev pub put : List ℕ → ℕ → ℕ → List ℕ
 put out at byte = set (set out at (digitOf (byte / 16))) (at + 1) (digitOf (byte % 16))
 
-put-length : (out : List ℕ) (at byte : ℕ) → length (put out at byte) ≡ length out
-put-length out at byte = simp length-set
+pair-length : (out : List ℕ) (at byte : ℕ) → length (put out at byte) ≡ length out
+pair-length out at byte = simp length-set
 
-put-front : (out : List ℕ) (at byte k : ℕ) → k ≤ at → take k (put out at byte) ≡ take k out
-put-front out at byte k h = take-set-le k (set out at (digitOf (byte / 16))) (at + 1) (digitOf (byte % 16)) (omega arith) ∙ take-set-le k out at (digitOf (byte / 16)) h
+pair-front : (out : List ℕ) (at byte k : ℕ) → k ≤ at → take k (put out at byte) ≡ take k out
+pair-front out at byte k h = take-set-le k (set out at (digitOf (byte / 16))) (at + 1) (digitOf (byte % 16)) (omega arith) ∙ take-set-le k out at (digitOf (byte / 16)) h
 
-put-back : (out : List ℕ) (at byte : ℕ) → at + 1 < length out → drop at (put out at byte) ≡ pair byte ++ drop (at + 2) out
-put-back out at byte h =
+pair-back : (out : List ℕ) (at byte : ℕ) → at + 1 < length out → drop at (put out at byte) ≡ hexPair byte ++ drop (at + 2) out
+pair-back out at byte h =
     let one : at + 1 ≡ suc at = omega arith in
     let more : at + 2 ≡ suc (suc at) = omega arith in
     rw (one, more) (two out at (digitOf (byte / 16)) (digitOf (byte % 16)) (omega arith))
@@ -65,11 +65,11 @@ module _ (out₀ out : List ℕ) (count : ℕ) where
       record {
         low = omega (arith, s .low);
         room = s .room;
-        same = put-length out (2 + 2 * k) (getD out k 0) ∙ s .same;
-        front = put-front out (2 + 2 * k) (getD out k 0) k (omega arith) ∙ sym (take-take k (suc k) out (omega arith)) ∙ ap (take k) (s .front)
+        same = pair-length out (2 + 2 * k) (getD out k 0) ∙ s .same;
+        front = pair-front out (2 + 2 * k) (getD out k 0) k (omega arith) ∙ sym (take-take k (suc k) out (omega arith)) ∙ ap (take k) (s .front)
             ∙ take-take k (suc k) out₀ (omega arith);
-        back = put-back out (2 + 2 * k) (getD out k 0) (omega (arith, s .same, s .room, s .low)) ∙ ap (λ (n : ℕ). pair (getD out k 0) ++ drop n out) place
-            ∙ ap (λ (l : List ℕ). pair (getD out k 0) ++ l) (s .back) ∙ ap (λ (b : ℕ). pair b ++ (hex (drop (suc k) bytes) ++ rest)) byte
+        back = pair-back out (2 + 2 * k) (getD out k 0) (omega (arith, s .same, s .room, s .low)) ∙ ap (λ (n : ℕ). hexPair (getD out k 0) ++ drop n out) place
+            ∙ ap (λ (l : List ℕ). hexPair (getD out k 0) ++ l) (s .back) ∙ ap (λ (b : ℕ). hexPair b ++ (hex (drop (suc k) bytes) ++ rest)) byte
             ∙ sym (ap (λ (l : List ℕ). hex l ++ rest) (drop-cons bytes k 0 held));
       }
 
@@ -78,7 +78,7 @@ module _ (out₀ out : List ℕ) (count : ℕ) where
   ended number s =
       let line : List ℕ = hex (number ∷ bytes) in
       let many : length line ≡ 2 + 2 * count = hex-length (number ∷ bytes) ∙ omega (arith, length-take-le count out₀ (omega (arith, s .room))) in
-      let turned : put out 0 number ≡ line ++ rest = put-back out 0 number (omega (arith, s .same, s .room)) ∙ ap (λ (l : List ℕ). pair number ++ l) (s .back) in
+      let turned : put out 0 number ≡ line ++ rest = pair-back out 0 number (omega (arith, s .same, s .room)) ∙ ap (λ (l : List ℕ). hexPair number ++ l) (s .back) in
       let last : rest ≡ getD out₀ (2 + 2 * count) 0 ∷ drop (suc (2 + 2 * count)) out₀ = drop-cons out₀ (2 + 2 * count) 0 (omega (arith, s .room)) in
       let long : suc (2 + 2 * count) ≡ length (line ++ 10 ∷ []) = sym (length-append line (10 ∷ []) ∙ omega (arith, many)) in
       ap (λ (l : List ℕ). set l (2 + 2 * count) 10) (turned ∙ ap (λ (l : List ℕ). line ++ l) last)

@@ -14,7 +14,7 @@ use Rattle.tpg.specs.declared.State.{State}
 use Rattle.tpg.specs.declared.answers.Outcome.{Outcome}
 use Rattle.text.specs.Control.{lf}
 use Rattle.text.specs.Hex.{isHex, unhex, hex}
-use Rattle.frames.specs.declared.Answered.{Answered}
+use Rattle.frames.specs.declared.FrameOutcome.{FrameOutcome}
 
 -- "one frame a line": its bytes; a line that is no hexadecimal has none
 unfoldable pub bytesOf : List ℕ → List ℕ
@@ -25,26 +25,26 @@ abbrev pub longestFrame : ℕ
 longestFrame = 61
 
 -- what a frame gives: an answer number, the box after it, the bytes sent
-pub record Reply : Type 0 where
+pub record Exchange : Type 0 where
   pub number : ℕ
   pub state : State
   pub bytes : List ℕ
 
 -- "A frame of other form, or a sign above 01, gives FF and changes nothing."
-abbrev pub noFrame : State → Reply
+abbrev pub noFrame : State → Exchange
 noFrame s = record { number = 255; state = s; bytes = [] }
 
 -- a call that sends nothing
-abbrev pub silent : Outcome → Reply
+abbrev pub silent : Outcome → Exchange
 silent o = record { number = number (o .answer); state = o .state; bytes = [] }
 
 -- a call that sends, on a box within its limits: "the state handed in breaks a limit" is answer 1
-abbrev pub sending : State → State → List ℕ → Reply
-sending s next bytes = cond (stateWithin s) (record { number = 0; state = next; bytes = bytes }) (record { number = 1; state = s; bytes = [] })
+abbrev pub sendingFrame : State → State → List ℕ → Exchange
+sendingFrame s next bytes = cond (stateWithin s) (record { number = 0; state = next; bytes = bytes }) (record { number = 1; state = s; bytes = [] })
 
 -- "01: up to 60 host bytes", all of them taken
-unfoldable pub hostFrame : State → List ℕ → Reply
-hostFrame s host = sending s (after s host) (said s host)
+unfoldable pub hostFrame : State → List ℕ → Exchange
+hostFrame s host = sendingFrame s (after s host) (said s host)
 
 -- "channel, kind, status, sign (00 plus, 01 minus; minus zero is zero), mantissa in three bytes high first, exponent in two's complement"
 abbrev pub readingOf : List ℕ → Reading
@@ -58,25 +58,25 @@ readingOf f = record {
 }
 
 -- "02", "or a sign above 01, gives FF"
-unfoldable pub readingFrame : State → List ℕ → Reply
+unfoldable pub readingFrame : State → List ℕ → Exchange
 readingFrame s f = cond (leb (getD f 4 0) 1) (silent (readingCall s (getD f 1 0) (readingOf f))) (noFrame s)
 
 -- "03: number of ticks in one byte."
-unfoldable pub ticksFrame : State → ℕ → Reply
-ticksFrame s n = sending s (afterTicks s n) (ticksText s n)
+unfoldable pub ticksFrame : State → ℕ → Exchange
+ticksFrame s n = sendingFrame s (afterTicks s n) (ticksText s n)
 
 -- "01 is a 361, 02 a 362"; no model has the number 0
 unfoldable pub modelNumber : ℕ → ℕ
 modelNumber b = cond (eqb b 1) 361 (cond (eqb b 2) 362 0)
 
 -- "04: fresh box, serial 0 (..; another byte is answer 2 and keeps the box)"
-unfoldable pub freshFrame : State → ℕ → Reply
+unfoldable pub freshFrame : State → ℕ → Exchange
 freshFrame s b =
     let o = freshCall (modelNumber b) 0 in
     record { number = number (o .answer); state = cond (eqb (number (o .answer)) 0) (o .state) s; bytes = [] }
 
 -- "First byte 01: up to 60 host bytes. 02: .. 03: .. 04: .. 05: power cycle."; each with as many bytes as it names
-unfoldable pub framed : State → List ℕ → Reply
+unfoldable pub framed : State → List ℕ → Exchange
 framed s f =
     let first = getD f 0 0 in
     cond (eqb first 1 && leb (length f) longestFrame) (hostFrame s (drop 1 f))
@@ -86,12 +86,12 @@ framed s f =
     (cond (eqb first 5 && eqb (length f) 1) (silent (cycleCall s)) (noFrame s)))))
 
 -- what an input line gives
-abbrev pub reply : State → List ℕ → Reply
-reply s line = framed s (bytesOf line)
+abbrev pub lineReply : State → List ℕ → Exchange
+lineReply s line = framed s (bytesOf line)
 
 -- "answer number in two digits, then all bytes sent", and the end of the line
-abbrev pub lineOf : Reply → List ℕ
-lineOf r = hex (r .number ∷ r .bytes) ++ lf ∷ []
+abbrev pub outputLine : Exchange → List ℕ
+outputLine r = hex (r .number ∷ r .bytes) ++ lf ∷ []
 
 -- the most bytes that a frame sends: 255 ticks, each with a line of the stream
 abbrev pub mostSent : ℕ
@@ -102,12 +102,12 @@ abbrev pub longestLine : ℕ
 longestLine = 2 * (1 + mostSent) + 1
 
 -- what an input line is answered, with an output of so many bytes: one that is shorter than the longest line is answer 3
-unfoldable pub answerCall : State → List ℕ → ℕ → Answered
+unfoldable pub answerCall : State → List ℕ → ℕ → FrameOutcome
 answerCall s line room =
     cond (leb longestLine room)
-    (record { number = reply s line .number; state = reply s line .state; written = length (lineOf (reply s line)) })
+    (record { number = lineReply s line .number; state = lineReply s line .state; written = length (outputLine (lineReply s line)) })
     (record { number = 3; state = s; written = 0 })
 
 -- and the output line
 unfoldable pub answerLine : State → List ℕ → ℕ → List ℕ
-answerLine s line room = cond (leb longestLine room) (lineOf (reply s line)) []
+answerLine s line room = cond (leb longestLine room) (outputLine (lineReply s line)) []

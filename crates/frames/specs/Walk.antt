@@ -4,13 +4,13 @@ use mathlib.Core.List.{List, []}
 use mathlib.Core.Bool.{cond}
 use lib.ListN.{length}
 use lib.Dec.{leb}
-use Rattle.frames.specs.Frames.{bytesOf, longestFrame, Reply}
-use Rattle.frames.specs.declared.taking.Told.{Told}
+use Rattle.frames.specs.Frames.{bytesOf, longestFrame, Exchange}
+use Rattle.frames.specs.declared.FrameOutcome.{FrameOutcome}
 
 -- the bytes of a line that are not too many for every form
 abbrev pub readBytes : List ℕ → List ℕ
 readBytes line = cond (leb (length line) (2 * longestFrame)) (bytesOf line) []
 
 -- a reply as the crate hands it on: the bytes stand in the output, and their count beside it
-abbrev pub toldOf : Reply → Told
-toldOf r = record { number = r .number; state = r .state; count = length (r .bytes) }
+abbrev pub frameOutcome : Exchange → FrameOutcome
+frameOutcome r = record { number = r .number; state = r .state; written = length (r .bytes) }

@@ -19,17 +19,17 @@ pub const LONGEST_FRAME: usize = 61;
 // What is answered where the output is shorter than the longest line.
 const SHORT_OUTPUT: u8 = 3;
 
-pub struct Answered {
+// The answer number of a frame, the box after it, and how many bytes stand in the output.
+pub struct FrameOutcome {
     pub number: u8,
     pub state: State,
-    // bytes of output written
     pub written: usize,
 }
 
-fn handed(number: u8, state: State, written: usize) -> Answered
+fn handed(number: u8, state: State, written: usize) -> FrameOutcome
     ensures { λ r. ⌜ r ≡ record { number = number; state = state; written = written } ⌝ }
 {
-    Answered {
+    FrameOutcome {
         number,
         state,
         written,
@@ -37,7 +37,7 @@ fn handed(number: u8, state: State, written: usize) -> Answered
 }
 
 // One input line, without its end, answered with one output line.
-pub fn answer(state: State, line: &[u8], out: &mut [u8]) -> Answered
+pub fn answer(state: State, line: &[u8], out: &mut [u8]) -> FrameOutcome
     ensures { λ r. ⌜ (r ≡ answerCall state (now (line .entry)) (length (now (out .entry)))) × (now (out .exit) ≡ over (answerLine state (now (line .entry)) (length (now (out .entry)))) (now (out .entry))) ⌝ }
 {
     if out.len() < LONGEST_LINE {
@@ -47,6 +47,6 @@ pub fn answer(state: State, line: &[u8], out: &mut [u8]) -> Answered
     let len = frame::read(line, &mut bytes);
     let told = taking::take(state, &bytes[..len], out);
     let next = told.state;
-    let written = spread::spread(out, told.number, told.count);
+    let written = spread::spread(out, told.number, told.written);
     handed(told.number, next, written)
 }

@@ -5,7 +5,8 @@ ghost use lib.ListN.{length, getD, drop};
 ghost use Rattle.tpg.specs.Answers.{number};
 ghost use Rattle.tpg.specs.Steps.{over};
 ghost use Rattle.frames.specs.Frames.{longestFrame, mostSent, noFrame, hostFrame, readingFrame, ticksFrame, modelNumber, freshFrame, framed};
-ghost use Rattle.frames.specs.Walk.{toldOf};
+ghost use Rattle.frames.specs.Walk.{frameOutcome};
+use crate::FrameOutcome;
 use crate::LONGEST_FRAME;
 use crate::measured::exponent_of;
 use crate::measured::mantissa_of;
@@ -15,68 +16,61 @@ use tpg::answers::Outcome;
 // The answer to a frame of other form.
 const NO_FRAME: u8 = 255;
 
-// The answer number of a frame, the box after it, and how many bytes it sent.
-pub(crate) struct Told {
-    pub number: u8,
-    pub state: State,
-    pub count: usize,
-}
-
 // What a call answered.
-fn told_of(o: Outcome) -> Told
-    ensures { λ r. ⌜ r ≡ record { number = number (o .answer); state = o .state; count = o .written } ⌝ }
+fn frame_outcome(o: Outcome) -> FrameOutcome
+    ensures { λ r. ⌜ r ≡ record { number = number (o .answer); state = o .state; written = o .written } ⌝ }
 {
     let answer = o.answer;
     let state = o.state;
-    Told {
+    FrameOutcome {
         number: answer.number(),
         state,
-        count: o.written,
+        written: o.written,
     }
 }
 
 // An answer that sends nothing.
-fn silent(number: u8, state: State) -> Told
-    ensures { λ r. ⌜ r ≡ record { number = number; state = state; count = 0 } ⌝ }
+fn silent(number: u8, state: State) -> FrameOutcome
+    ensures { λ r. ⌜ r ≡ record { number = number; state = state; written = 0 } ⌝ }
 {
-    Told {
+    FrameOutcome {
         number,
         state,
-        count: 0,
+        written: 0,
     }
 }
 
 // The answer to a frame of other form: nothing changes.
-fn no_frame(state: State) -> Told
-    ensures { λ r. ⌜ r ≡ toldOf (noFrame state) ⌝ }
+fn no_frame(state: State) -> FrameOutcome
+    ensures { λ r. ⌜ r ≡ frameOutcome (noFrame state) ⌝ }
 {
     silent(NO_FRAME, state)
 }
 
-fn take_host(state: State, frame: &[u8], out: &mut [u8]) -> Told
+fn take_host(state: State, frame: &[u8], out: &mut [u8]) -> FrameOutcome
     requires { ⌜ (1 ≤ length (now frame)) × (length (now frame) ≤ longestFrame) × (mostSent ≤ length (now out)) ⌝ }
-    ensures { λ r. ⌜ (r ≡ toldOf (hostFrame state (drop 1 (now (frame .entry))))) × (now (out .exit) ≡ over (hostFrame state (drop 1 (now (frame .entry))) .bytes) (now (out .entry))) ⌝ }
+    ensures { λ r. ⌜ (r ≡ frameOutcome (hostFrame state (drop 1 (now (frame .entry))))) × (now (out .exit) ≡ over (hostFrame state (drop 1 (now (frame .entry))) .bytes) (now (out .entry))) ⌝ }
 {
-    told_of(state.host(&frame[1..], out))
+    frame_outcome(state.host(&frame[1..], out))
 }
 
-fn take_reading(state: State, frame: &[u8]) -> Told
+fn take_reading(state: State, frame: &[u8]) -> FrameOutcome
     requires { ⌜ length (now frame) ≡ 9 ⌝ }
-    ensures { λ r. ⌜ r ≡ toldOf (readingFrame state (now (frame .entry))) ⌝ }
+    ensures { λ r. ⌜ r ≡ frameOutcome (readingFrame state (now (frame .entry))) ⌝ }
 {
     if frame[4] <= 1 {
         let mantissa = mantissa_of(frame[4] == 1, frame[5], frame[6], frame[7]);
         let exponent = exponent_of(frame[8]);
-        return told_of(state.reading(frame[1], frame[2], frame[3], mantissa, exponent));
+        return frame_outcome(state.reading(frame[1], frame[2], frame[3], mantissa, exponent));
     }
     no_frame(state)
 }
 
-fn take_ticks(state: State, count: u8, out: &mut [u8]) -> Told
+fn take_ticks(state: State, count: u8, out: &mut [u8]) -> FrameOutcome
     requires { ⌜ mostSent ≤ length (now out) ⌝ }
-    ensures { λ r. ⌜ (r ≡ toldOf (ticksFrame state count)) × (now (out .exit) ≡ over (ticksFrame state count .bytes) (now (out .entry))) ⌝ }
+    ensures { λ r. ⌜ (r ≡ frameOutcome (ticksFrame state count)) × (now (out .exit) ≡ over (ticksFrame state count .bytes) (now (out .entry))) ⌝ }
 {
-    told_of(state.ticks(count, out))
+    frame_outcome(state.ticks(count, out))
 }
 
 // The number of the model that a byte names.
@@ -92,8 +86,8 @@ fn model_number(byte: u8) -> u32
     0
 }
 
-fn take_fresh(state: State, byte: u8) -> Told
-    ensures { λ r. ⌜ r ≡ toldOf (freshFrame state byte) ⌝ }
+fn take_fresh(state: State, byte: u8) -> FrameOutcome
+    ensures { λ r. ⌜ r ≡ frameOutcome (freshFrame state byte) ⌝ }
 {
     let o = State::fresh(model_number(byte), 0);
     let answer = o.answer;
@@ -116,9 +110,9 @@ fn first_of(frame: &[u8]) -> u8
 }
 
 // The first byte says what is wanted, and how many bytes go with it.
-pub(crate) fn take(state: State, frame: &[u8], out: &mut [u8]) -> Told
+pub(crate) fn take(state: State, frame: &[u8], out: &mut [u8]) -> FrameOutcome
     requires { ⌜ mostSent ≤ length (now out) ⌝ }
-    ensures { λ r. ⌜ (r ≡ toldOf (framed state (now (frame .entry)))) × (now (out .exit) ≡ over (framed state (now (frame .entry)) .bytes) (now (out .entry))) ⌝ }
+    ensures { λ r. ⌜ (r ≡ frameOutcome (framed state (now (frame .entry)))) × (now (out .exit) ≡ over (framed state (now (frame .entry)) .bytes) (now (out .entry))) ⌝ }
 {
     let len = frame.len();
     let first = first_of(frame);
@@ -135,7 +129,7 @@ pub(crate) fn take(state: State, frame: &[u8], out: &mut [u8]) -> Told
         return take_fresh(state, frame[1]);
     }
     if (first == 5) & (len == 1) {
-        return told_of(state.power_cycle());
+        return frame_outcome(state.power_cycle());
     }
     no_frame(state)
 }

@@ -1,4 +1,4 @@
--- What the definitions give where docs/PROMISES.md names a wrong answer.
+-- What the definitions give where docs/promises/ names a wrong answer.
 use mathlib.Core.Path.{_≡_, refl}
 use mathlib.Core.Bool.{true, false}
 use mathlib.Core.List.{[], _∷_, map}
@@ -7,7 +7,7 @@ use Rattle.text.specs.Text.{ascii}
 use Rattle.text.specs.Digits.{bare}
 use Rattle.numbers.specs.Numbers.{less, isBelow, isAbove}
 use Rattle.numerals.specs.Writing.{scientific}
-use Rattle.gauges.specs.Kinds.{kindName}
+use Rattle.gauges.specs.Identification.{kindName}
 use Rattle.gauges.specs.Readings.{zeroValue}
 use Rattle.gauges.specs.Shown.{shownText, switched}
 

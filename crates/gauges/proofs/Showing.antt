@@ -18,13 +18,13 @@ use Rattle.ground.proofs.Cases.{or-either, or-right, cond-cases}
 use Rattle.numbers.proofs.Signed.{between-near, near-between}
 use Rattle.numbers.proofs.Scaling.{scaled-nearest, scaled-five, scaled-near, scaled-sign, scaled-not}
 use Rattle.numerals.specs.Writing.{scientific, valueText}
-use Rattle.gauges.specs.Readings.{inRange, withinLimits, zeroValue}
+use Rattle.gauges.specs.Readings.{valueInRange, withinLimits, zeroValue}
 use Rattle.numbers.specs.Units.{fromHpa}
 use Rattle.gauges.specs.Shown.{absentShows, inHpa, shownOf, shownText, switched}
 use Rattle.gauges.specs.declared.reading.Reading.{Reading}
 use Rattle.gauges.specs.declared.shown.Shown.{Shown}
-use Rattle.numbers.proofs.Factors.{usable}
-use Rattle.gauges.proofs.Limits.{zero-is, known, in-range}
+use Rattle.numbers.proofs.UnitFactors.{usable}
+use Rattle.gauges.proofs.ReadingLimits.{zero-is, known, in-range}
 
 module _ (r : Reading) (unit : ℕ) (five : isFive (inHpa r) ≡ true) where
   scalable : isFive (inHpa r) && isUsable (fromHpa unit) ≡ true
@@ -52,16 +52,16 @@ module _ (r : Reading) (unit : ℕ) (zero : isZero (inHpa r) ≡ true) where
   zero-stays = ap valueText shown-zero
 
 module _ (r : Reading) (unit : ℕ) (h : withinLimits r ≡ true) where
-  to-show : inRange (inHpa r) ≡ true
+  to-show : valueInRange (inHpa r) ≡ true
   to-show =
-      cond-cases (λ (v : Value). inRange v ≡ true) (eqb (r .status) 5) absentShows (r .value)
+      cond-cases (λ (v : Value). valueInRange v ≡ true) (eqb (r .status) 5) absentShows (r .value)
       (λ e. refl) (λ e. in-range r h)
 
   limits : (isNumber (inHpa r) ≡ true) × (between (negsuc 19) (pos 20) (inHpa r .exponent) ≡ true)
   limits = and-eq-true-iff (isNumber (inHpa r)) (between (negsuc 19) (pos 20) (inHpa r .exponent)) .0 to-show
 
-  zero-or-five : (isZero (inHpa r) ≡ true) ⊎ (isFive (inHpa r) ≡ true)
-  zero-or-five = or-either (isZero (inHpa r)) (isFive (inHpa r)) (limits .0)
+  zero-or-digits : (isZero (inHpa r) ≡ true) ⊎ (isFive (inHpa r) ≡ true)
+  zero-or-digits = or-either (isZero (inHpa r)) (isFive (inHpa r)) (limits .0)
 
   -- its exponent has two digits
   pub shown-exponent : natAbs (shownOf r unit .value .exponent) ≤ 45
@@ -70,7 +70,7 @@ module _ (r : Reading) (unit : ℕ) (h : withinLimits r ≡ true) where
       (λ (f : isFive (inHpa r) ≡ true).
       let moved = scaled-near (inHpa r) (fromHpa unit) (scalable r unit f) in
       omega (arith, between-near 19 (inHpa r .exponent) (limits .1), moved))
-      zero-or-five
+      zero-or-digits
 
   -- so it is a number, which thresholds are compared with
   pub shown-number : isNumber (shownOf r unit .value) ≡ true
@@ -81,7 +81,7 @@ module _ (r : Reading) (unit : ℕ) (h : withinLimits r ≡ true) where
       let digits = ap₂ _&&_ (le-leb _ _ (d .0)) (le-leb _ _ (d .1)) in
       let two = near-between 98 (shownOf r unit .value .exponent) (omega (arith, shown-exponent)) in
       or-right (isZero (shownOf r unit .value)) (isFive (shownOf r unit .value)) (ap₂ _&&_ digits two))
-      zero-or-five
+      zero-or-digits
 
   -- with its status of one digit it makes thirteen bytes
   pub shown-length : length (shownText (shownOf r unit)) ≡ 13

@@ -1,3 +1,3 @@
 pub mod Readings
 pub mod Shown
-pub mod Kinds
+pub mod Identification

@@ -7,12 +7,12 @@ use Rattle.numbers.specs.declared.value.Value.{Value}
 use Rattle.gauges.specs.declared.reading.Reading.{Reading}
 
 -- "gauge kind 0 to 7 (...), status 0 to 6"
-abbrev pub isKnown : Reading → Bool
-isKnown r = leb (r .kind) 7 && leb (r .status) 6
+abbrev pub kindAndStatus : Reading → Bool
+kindAndStatus r = leb (r .kind) 7 && leb (r .status) 6
 
 -- "a signed mantissa of 0 or magnitude 10000 to 99999 and an exponent -20 to 20"; "Zero has exponent 0."
-abbrev pub inRange : Value → Bool
-inRange v = isNumber v && between (negsuc 19) (pos 20) (v .exponent)
+abbrev pub valueInRange : Value → Bool
+valueInRange v = isNumber v && between (negsuc 19) (pos 20) (v .exponent)
 
 -- "Status is 5 exactly when kind is 6, and the value is then zero"
 abbrev pub sensorAgrees : Reading → Bool
@@ -24,7 +24,7 @@ identifierAgrees r = Bool·beq (eqb (r .status) 6) (eqb (r .kind) 7)
 
 -- all limits of a reading
 unfoldable pub withinLimits : Reading → Bool
-withinLimits r = isKnown r && inRange (r .value) && sensorAgrees r && identifierAgrees r
+withinLimits r = kindAndStatus r && valueInRange (r .value) && sensorAgrees r && identifierAgrees r
 
 -- "Zero has exponent 0."
 abbrev pub zeroValue : Value

@@ -38,5 +38,5 @@ cond-cases P true x y f g = f refl
 cond-cases P false x y f g = g refl
 
 -- a number within limits that a test holds to
-pub ranged : (low high m : ℕ) → inRange low high m ≡ true → (low ≤ m) × (m ≤ high)
-ranged low high m h = let b = and-eq-true-iff (leb low m) (leb m high) .0 h in (leb-true low m (b .0), leb-true m high (b .1))
+pub in-range : (low high m : ℕ) → inRange low high m ≡ true → (low ≤ m) × (m ≤ high)
+in-range low high m h = let b = and-eq-true-iff (leb low m) (leb m high) .0 h in (leb-true low m (b .0), leb-true m high (b .1))

@@ -19,18 +19,18 @@ use Rattle.settings.specs.declared.model.Model.{Model}
 use Rattle.settings.specs.declared.model.Model.the-variants.{Tpg361, Tpg362}
 use Rattle.settings.specs.declared.mnemonic.Setting.{Setting}
 use Rattle.settings.specs.declared.mnemonic.Mnemonic.{Mnemonic}
-use Rattle.settings.specs.declared.mnemonic.Mnemonic.the-variants.{Setting as Of}
+use Rattle.settings.specs.declared.mnemonic.Mnemonic.the-variants.{OfSetting}
 use Rattle.settings.specs.declared.mnemonic.Named.the-variants.{Known}
 use Rattle.settings.specs.declared.kinds.Kind.{Kind}
-use Rattle.settings.specs.declared.kinds.Kind.the-variants.{Threshold as Level}
+use Rattle.settings.specs.declared.kinds.Kind.the-variants.{OfThreshold}
 use Rattle.settings.specs.declared.Settings.{Settings}
 use Rattle.ground.proofs.Members.{each-map, each-both, every-each, map-each}
 use Rattle.settings.proofs.Places.{row-places}
 use Rattle.settings.proofs.Storing.{Holding}
 use Rattle.settings.proofs.Sheets.{sheet-holding, on-sheet, few, within-rows, sheet-each}
 use Rattle.lines.specs.Splitting.{fields, joined}
-use Rattle.lines.specs.Judging.{readings, formed, valued, cellOf, rowOf, judgedFields, withFields, parted, judged}
-use Rattle.lines.specs.Sheets.{lineOf}
+use Rattle.lines.specs.Judging.{fieldsRead, formed, valued, cellOf, rowOf, judgedFields, withFields, parted, judged}
+use Rattle.lines.specs.Sheets.{sheetLine}
 use Rattle.lines.specs.Replies.{texts, settingText}
 use Rattle.lines.specs.declared.verdict.Field.{Field}
 use Rattle.lines.specs.declared.verdict.Field.the-variants.{Held}
@@ -71,8 +71,8 @@ count-texts : {ks : List Kind} {cs : List Threshold} → AllFit ks cs → length
 count-texts none = refl
 count-texts (next h f) = ap suc (count-texts f)
 
-readings-texts : {ks : List Kind} {cs : List Threshold} → Each (λ k. sound k ≡ true) ks → AllFit ks cs → readings ks (texts ks cs) ≡ map Held cs
-unfolding readings
+readings-texts : {ks : List Kind} {cs : List Threshold} → Each (λ k. sound k ≡ true) ks → AllFit ks cs → fieldsRead ks (texts ks cs) ≡ map Held cs
+unfolding fieldsRead
 readings-texts s none = refl
 readings-texts s (next {k} {c} h f) = ap₂ (λ (r : Field) (rs : List Field). r ∷ rs) (reads-back k c (s .0) h) (readings-texts (s .1) f)
 
@@ -149,7 +149,7 @@ all-spelt model =
 taking : Model → Mnemonic → Bool
 taking model m = ltb (channelOf m) (channels model) && (ltb 0 (length (kinds model m)) && every sound (kinds model m))
 
-sheet-takes : (model : Model) → every (λ x. taking model (Of x)) (sheet model) ≡ true
+sheet-takes : (model : Model) → every (λ x. taking model (OfSetting x)) (sheet model) ≡ true
 unfolding taking every storedKinds
 sheet-takes Tpg361 = refl
 sheet-takes Tpg362 = refl
@@ -163,36 +163,36 @@ taking-by model m t =
 
 -- ---- the settings of the sheet
 
-sheet-spelt : (model : Model) → Each (λ x. Spelt model (Of x)) (sheet model)
+sheet-spelt : (model : Model) → Each (λ x. Spelt model (OfSetting x)) (sheet model)
 sheet-spelt model = sheet-each (Spelt model) model (all-spelt model)
 
-pub accepted : (model : Model) (x : Setting) → Holding x → (cs : List Threshold) → AllFit (kinds model (Of x)) cs
-    → judged model (name (Of x) ++ (code "," ∷ joined (texts (kinds model (Of x)) cs))) ≡ Writes (Of x) (rowOf cs)
+pub accepted : (model : Model) (x : Setting) → Holding x → (cs : List Threshold) → AllFit (kinds model (OfSetting x)) cs
+    → judged model (name (OfSetting x) ++ (code "," ∷ joined (texts (kinds model (OfSetting x)) cs))) ≡ Writes (OfSetting x) (rowOf cs)
 accepted model x h cs =
-    let sp = on-sheet (λ x. Spelt model (Of x)) model (sheet-spelt model) x h in
-    let t = on-sheet (λ x. taking model (Of x) ≡ true) model (every-each (λ x. taking model (Of x)) (sheet model) (sheet-takes model)) x h in
-    with-texts model (Of x) sp refl (taking-by model (Of x) t)
+    let sp = on-sheet (λ x. Spelt model (OfSetting x)) model (sheet-spelt model) x h in
+    let t = on-sheet (λ x. taking model (OfSetting x) ≡ true) model (every-each (λ x. taking model (OfSetting x)) (sheet model) (sheet-takes model)) x h in
+    with-texts model (OfSetting x) sp refl (taking-by model (OfSetting x) t)
 
 -- ---- the sheet of settings within their limits
 
 -- cells that fit at each place
 fit-places : (ks : List Kind) (cs : List Threshold) → length ks ≤ length cs
-    → ((i : ℕ) → i < length ks → fits (getD ks i Level) (getD cs i (plain 0)) ≡ true) → AllFit ks (take (length ks) cs)
+    → ((i : ℕ) → i < length ks → fits (getD ks i OfThreshold) (getD cs i (plain 0)) ≡ true) → AllFit ks (take (length ks) cs)
 fit-places [] cs h f = none
 fit-places (k ∷ ks) [] h f = absurd (omega arith)
 fit-places (k ∷ ks) (c ∷ cs) h f = next (f 0 (omega arith)) (fit-places ks cs (omega arith) (λ i l. f (suc i) (omega arith)))
 
-pub cells-fit : (model : Model) (s : Settings) → within model s ≡ true → (x : Setting) → Holding x → AllFit (kinds model (Of x)) (cells model s x)
+pub cells-fit : (model : Model) (s : Settings) → within model s ≡ true → (x : Setting) → Holding x → AllFit (kinds model (OfSetting x)) (cells model s x)
 cells-fit model s w x h =
-    let ks = kinds model (Of x) in
+    let ks = kinds model (OfSetting x) in
     let r = row s x in
     let d = row (defaults model) x in
     fit-places ks (listed r) (few model x)
     (λ i l. rw (lt-ltb i (length ks) l) at (row-places ks r d (within-rows model s w x h) i (omega (arith, few model x))))
 
 pub sheet-accepted : (model : Model) (s : Settings) → within model s ≡ true
-    → Each (λ x. judged model (lineOf model s x) ≡ Writes (Of x) (rowOf (cells model s x))) (sheet model)
+    → Each (λ x. judged model (sheetLine model s x) ≡ Writes (OfSetting x) (rowOf (cells model s x))) (sheet model)
 unfolding settingText
 sheet-accepted model s w =
-    each-map Holding (λ x. judged model (lineOf model s x) ≡ Writes (Of x) (rowOf (cells model s x)))
+    each-map Holding (λ x. judged model (sheetLine model s x) ≡ Writes (OfSetting x) (rowOf (cells model s x)))
     (λ x h. accepted model x h (cells model s x) (cells-fit model s w x h)) (sheet model) (sheet-holding model)

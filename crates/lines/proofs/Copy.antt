@@ -6,33 +6,33 @@ use mathlib.Core.Bool.{true}
 use mathlib.Core.Logic.{_≢_, _↔_}
 use lib.ListN.{take, drop}
 use Rattle.settings.specs.Mnemonics.{sheet}
-use Rattle.settings.specs.Rows.{row, listed, count, cells}
-use Rattle.settings.specs.Limits.{within, Shaped}
+use Rattle.settings.specs.Rows.{row, listed, fieldCount, cells}
+use Rattle.settings.specs.Limits.{within, SettingsShaped}
 use Rattle.settings.specs.declared.model.Model.{Model}
 use Rattle.settings.specs.declared.mnemonic.Setting.{Setting}
-use Rattle.settings.specs.declared.mnemonic.Mnemonic.the-variants.{Setting as Of}
+use Rattle.settings.specs.declared.mnemonic.Mnemonic.the-variants.{OfSetting}
 use Rattle.settings.specs.declared.rows.Row.{Row}
 use Rattle.settings.specs.declared.Settings.{Settings}
 use Rattle.ground.specs.Members.{Each}
 use Rattle.ground.proofs.Members.{each-both, each-take, each-drop, map-each}
 use Rattle.settings.proofs.Storing.{Holding, mixed-front, stored-row, stored-others, stored-shaped, upto-three}
 use Rattle.settings.proofs.Sheets.{sheet-holding, on-sheet, Distinct, sheet-distinct, distinct-cut, distinct-take, few, cells-row, sheet-decides}
-use Rattle.settings.proofs.Keeping.{fitting-canon}
+use Rattle.settings.proofs.StoredLimits.{fitting-canon}
 use Rattle.lines.specs.Judging.{rowOf, judged, effect}
 use Rattle.lines.specs.Replies.{settingText}
 use Rattle.lines.specs.declared.verdict.Verdict.the-variants.{Writes}
-use Rattle.lines.specs.Sheets.{lineOf, after}
+use Rattle.lines.specs.Sheets.{sheetLine, settingsAfter}
 use Rattle.lines.proofs.Accepted.{sheet-accepted}
-use Rattle.lines.proofs.Kept.{writes-fitting, effect-within, effect-shaped}
+use Rattle.lines.proofs.WrittenLimits.{writes-fitting, effect-within, effect-shaped}
 
 -- ---- any lines
 
 module _ (model : Model) where
-  pub after-shaped : (lines : List (List ℕ)) (s : Settings) → Shaped s → Shaped (after model s lines)
+  pub after-shaped : (lines : List (List ℕ)) (s : Settings) → SettingsShaped s → SettingsShaped (settingsAfter model s lines)
   after-shaped [] s sh = sh
   after-shaped (line ∷ lines) s sh = after-shaped lines (effect model s (judged model line)) (effect-shaped model s sh (judged model line))
 
-  pub after-within : (lines : List (List ℕ)) (s : Settings) → Shaped s → within model s ≡ true → within model (after model s lines) ≡ true
+  pub after-within : (lines : List (List ℕ)) (s : Settings) → SettingsShaped s → within model s ≡ true → within model (settingsAfter model s lines) ≡ true
   after-within [] s sh w = w
   after-within (line ∷ lines) s sh w =
       after-within lines (effect model s (judged model line)) (effect-shaped model s sh (judged model line)) (effect-within model s sh line w)
@@ -48,25 +48,25 @@ module _ (model : Model) (a : Settings) where
   abbrev sent : Setting → Row
   sent x = rowOf (cells model a x)
 
-  sent-cells : (x : Setting) → take (count model x) (listed (sent x)) ≡ cells model a x
-  sent-cells x = row-cells (count model x) (row a x) (few model x)
+  sent-cells : (x : Setting) → take (fieldCount model x) (listed (sent x)) ≡ cells model a x
+  sent-cells x = row-cells (fieldCount model x) (row a x) (few model x)
 
   -- the settings b after that line
   abbrev next : Settings → Setting → Settings
-  next b x = effect model b (judged model (lineOf model a x))
+  next b x = effect model b (judged model (sheetLine model a x))
 
   module _ (wa : within model a ≡ true) where
-    line-accepted : {x : Setting} → Holding x → judged model (lineOf model a x) ≡ Writes (Of x) (sent x)
-    line-accepted {x} = on-sheet (λ x. judged model (lineOf model a x) ≡ Writes (Of x) (sent x)) model (sheet-accepted model a wa) x
+    line-accepted : {x : Setting} → Holding x → judged model (sheetLine model a x) ≡ Writes (OfSetting x) (sent x)
+    line-accepted {x} = on-sheet (λ x. judged model (sheetLine model a x) ≡ Writes (OfSetting x) (sent x)) model (sheet-accepted model a wa) x
 
     module _ (b : Settings) {x : Setting} (h : Holding x) where
-      line-shaped : Shaped b → Shaped (next b x)
-      line-shaped sh = rw (line-accepted h) (stored-shaped model b (sent x) (Of x) sh)
+      line-shaped : SettingsShaped b → SettingsShaped (next b x)
+      line-shaped sh = rw (line-accepted h) (stored-shaped model b (sent x) (OfSetting x) sh)
 
-      line-named : Shaped b → cells model (next b x) x ≡ cells model a x
-      line-named sh =
-          let c = fitting-canon model (sent x) h (writes-fitting model (lineOf model a x) (Of x) (sent x) (line-accepted h)) in
-          rw (line-accepted h, stored-row model b (sent x) sh h c) (mixed-front (count model x) (sent x) (row b x) (few model x) ∙ sent-cells x)
+      own-named : SettingsShaped b → cells model (next b x) x ≡ cells model a x
+      own-named sh =
+          let c = fitting-canon model (sent x) h (writes-fitting model (sheetLine model a x) (OfSetting x) (sent x) (line-accepted h)) in
+          rw (line-accepted h, stored-row model b (sent x) sh h c) (mixed-front (fieldCount model x) (sent x) (row b x) (few model x) ∙ sent-cells x)
 
       line-others : {y : Setting} → Holding y → y ≢ x → row (next b x) y ≡ row b y
       line-others g d = rw (line-accepted h) (stored-others model b (sent x) h g d)
@@ -75,25 +75,25 @@ module _ (model : Model) (a : Settings) where
 
     -- what is not named stays as it was
     pub copied-others : (xs : List Setting) (b : Settings) → Each Holding xs → {y : Setting} → Holding y → Each (λ x. y ≢ x) xs
-        → row (after model b (map (lineOf model a) xs)) y ≡ row b y
+        → row (settingsAfter model b (map (sheetLine model a) xs)) y ≡ row b y
     copied-others [] b h g d = refl
     copied-others (x ∷ xs) b h g d = copied-others xs (next b x) (h .1) g (d .1) ∙ line-others b (h .0) g (d .0)
 
     -- and what is named is a's: no later line names it again
-    pub copied-named : (xs : List Setting) (b : Settings) → Each Holding xs → Distinct xs → Shaped b
-        → Each (λ x. cells model (after model b (map (lineOf model a) xs)) x ≡ cells model a x) xs
+    pub copied-named : (xs : List Setting) (b : Settings) → Each Holding xs → Distinct xs → SettingsShaped b
+        → Each (λ x. cells model (settingsAfter model b (map (sheetLine model a) xs)) x ≡ cells model a x) xs
     copied-named [] b h d sh = tt
     copied-named (x ∷ xs) b h d sh =
-        (ap (λ (r : Row). take (count model x) (listed r)) (copied-others xs (next b x) (h .1) (h .0) (d .0)) ∙ line-named b (h .0) sh, copied-named xs (next b x) (h .1) (d .1) (line-shaped b (h .0) sh))
+        (ap (λ (r : Row). take (fieldCount model x) (listed r)) (copied-others xs (next b x) (h .1) (h .0) (d .0)) ∙ own-named b (h .0) sh, copied-named xs (next b x) (h .1) (d .1) (line-shaped b (h .0) sh))
 
 -- ---- the sheet
 
 module _ (model : Model) (a b : Settings) where
   -- the second box after the first n lines of the first's sheet
   abbrev pub afterLines : ℕ → Settings
-  afterLines n = after model b (map (lineOf model a) (take n (sheet model)))
+  afterLines n = settingsAfter model b (map (sheetLine model a) (take n (sheet model)))
 
-  module _ (sa : Shaped a) (sb : Shaped b) (wa : within model a ≡ true) (wb : within model b ≡ true) where
+  module _ (sa : SettingsShaped a) (sb : SettingsShaped b) (wa : within model a ≡ true) (wb : within model b ≡ true) where
     cut-holding : (n : ℕ) → Each Holding (take n (sheet model))
     cut-holding n = each-take Holding n (sheet model) (sheet-holding model)
 
@@ -102,7 +102,7 @@ module _ (model : Model) (a b : Settings) where
     cut-named n =
         let named = take n (sheet model) in
         each-both Holding (λ x. cells model (afterLines n) x ≡ cells model a x) (λ x. row (afterLines n) x ≡ row a x)
-        (cells-row model (afterLines n) a (after-within model (map (lineOf model a) named) b sb wb) wa) named (cut-holding n)
+        (cells-row model (afterLines n) a (after-within model (map (sheetLine model a) named) b sb wb) wa) named (cut-holding n)
         (copied-named model a wa named b (cut-holding n) (distinct-take n (sheet model) (sheet-distinct model)) sb)
 
     -- the rest are the second box's own
@@ -113,10 +113,10 @@ module _ (model : Model) (a b : Settings) where
         (drop n (sheet model)) (each-drop Holding n (sheet model) (sheet-holding model)) (distinct-cut n (sheet model) (sheet-distinct model))
 
     -- after all of the sheet the settings are equal
-    pub whole-copy : after model b (map (lineOf model a) (sheet model)) ≡ a
+    pub whole-copy : settingsAfter model b (map (sheetLine model a) (sheet model)) ≡ a
     whole-copy =
-        let lines = map (lineOf model a) (sheet model) in
-        sheet-decides model (after model b lines) a (after-within model lines b sb wb) wa (after-shaped model lines b sb) sa .0
+        let lines = map (sheetLine model a) (sheet model) in
+        sheet-decides model (settingsAfter model b lines) a (after-within model lines b sb wb) wa (after-shaped model lines b sb) sa .0
         (copied-named model a wa (sheet model) b (sheet-holding model) (sheet-distinct model) sb)
 
     -- two boxes give equal sheets exactly when their settings are equal

@@ -1,15 +1,14 @@
--- What the definitions give where docs/PROMISES.md names a wrong answer.
+-- What the definitions give where docs/promises/ names a wrong answer.
 use mathlib.Core.Path.{_≡_, refl}
-use mathlib.Core.Bool.{true, false}
 use mathlib.Core.List.{[], _∷_, map}
 use Rattle.text.specs.Text.{ascii}
 use Rattle.text.specs.Page.{put, puts, Page}
-use Rattle.text.specs.Digits.{bare, binary}
+use Rattle.text.specs.Digits.{bare}
 use Rattle.settings.specs.Models.{defaults}
 use Rattle.settings.specs.declared.model.Model.{Model}
 use Rattle.settings.specs.declared.model.Model.the-variants.{Tpg361, Tpg362}
 use Rattle.lines.specs.Replies.{settingText, factorsText}
-use Rattle.text.specs.Control.{crLf}
+use Rattle.text.specs.Control.{cr, lf, crLf}
 use Rattle.lines.specs.Words.{wordText, noError, gathered}
 use Rattle.lines.specs.declared.verdict.Fault.the-variants.{Syntax, Hardware}
 
@@ -19,11 +18,8 @@ unfolding bare settingText
 default-factors = refl
 
 -- CR, then LF
-pub line-ends : (t : Page) → puts t crLf ≡ put (put t 13) 10
+pub line-ends : (t : Page) → puts t crLf ≡ put (put t cr) lf
 line-ends t = refl
-
-pub digits-are : map binary (true ∷ false ∷ []) ≡ ascii "10"
-digits-are = refl
 
 -- no hardware, then syntax
 pub digits-gather : wordText (gathered (gathered noError Hardware) Syntax) ≡ ascii "0101"

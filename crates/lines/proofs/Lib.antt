@@ -2,9 +2,9 @@ pub mod Walking
 pub mod Written
 pub mod ReadBack
 pub mod Accepted
-pub mod Kept
-pub mod Answered
+pub mod WrittenLimits
+pub mod Answerable
 pub mod Worded
-pub mod Rows
+pub mod Examples
 pub mod Copy
 pub mod Instances

@@ -12,7 +12,7 @@ use lib.IntN.{ℤ, pos, negsuc, natAbs}
 use Rattle.text.specs.Digits.{dig, bare, wholeText, factorText}
 use Rattle.numbers.specs.Numbers.{between}
 use Rattle.numbers.specs.declared.threshold.Threshold.{Threshold}
-use Rattle.ground.proofs.Cases.{ranged as in-range, cond-cases}
+use Rattle.ground.proofs.Cases.{in-range, cond-cases}
 use Rattle.numerals.specs.Whole.{wholeOf, factorOf}
 use Rattle.numerals.specs.Writing.{signByte, scientific}
 use Rattle.numerals.specs.declared.whole.Numeral.{Numeral}
@@ -21,7 +21,7 @@ use Rattle.numerals.proofs.RoundTrip.{whole-round, factor-round, threshold-roun
 use Rattle.settings.specs.Limits.{inside, fits}
 use Rattle.settings.specs.declared.kinds.Limits.{Limits}
 use Rattle.settings.specs.declared.kinds.Kind.{Kind}
-use Rattle.settings.specs.declared.kinds.Kind.the-variants.{Whole, Factor, Threshold as Level}
+use Rattle.settings.specs.declared.kinds.Kind.the-variants.{OfWhole, OfFactor, OfThreshold}
 use Rattle.ground.specs.Members.{Each}
 use Rattle.ground.proofs.Members.{each-append}
 use Rattle.settings.proofs.Places.{fits-plain}
@@ -63,10 +63,10 @@ module _ {P : ℕ → Type 0} (w : Written P) where
       (w .point, each-append P (dig 4 m) end (each-dig 4 m) (w .letter, (each-sign e, each-dig 2 (natAbs e))))
 
   pub each-written : (k : Kind) (c : Threshold) → Each P (write k c)
-  each-written (Whole l) c = each-whole (c .mantissa)
-  each-written (Factor l) c =
+  each-written (OfWhole l) c = each-whole (c .mantissa)
+  each-written (OfFactor l) c =
       each-append P (wholeText (c .mantissa / 1000)) (code "." ∷ dig 3 (c .mantissa)) (each-whole (c .mantissa / 1000)) (w .point, each-dig 3 (c .mantissa))
-  each-written Level c = each-threshold (c .mantissa) (c .exponent)
+  each-written OfThreshold c = each-threshold (c .mantissa) (c .exponent)
 
 -- no byte is a comma
 abbrev pub Plain : List ℕ → Type 0
@@ -79,9 +79,9 @@ plain-written = each-written (record { digit = (λ b l h. ne-eqb b 44 (λ e. ome
 
 -- the highest number of a kind has no more digits than its numeral
 abbrev pub sound : Kind → Bool
-sound (Whole l) = ltb (l .most) 1000
-sound (Factor l) = ltb (l .most) 100000
-sound Level = true
+sound (OfWhole l) = ltb (l .most) 1000
+sound (OfFactor l) = ltb (l .most) 100000
+sound OfThreshold = true
 
 -- a number within limits is held as the cell that it came from
 number-held : (l : Limits) (c : Threshold) → inside l c ≡ true → limited l (c .mantissa) ≡ Held c
@@ -96,6 +96,6 @@ numeral-back numeral text bound back l c s f =
     ap (ranged l) (back (c .mantissa) (omega (arith, ltb-true (l .most) bound s))) ∙ number-held l c f
 
 pub reads-back : (k : Kind) (c : Threshold) → sound k ≡ true → fits k c ≡ true → read k (write k c) ≡ Held c
-reads-back (Whole l) c s f = numeral-back wholeOf wholeText 1000 whole-round l c s f
-reads-back (Factor l) c s f = numeral-back factorOf factorText 100000 factor-round l c s f
-reads-back Level c s f = ap thresholdField (threshold-round c f)
+reads-back (OfWhole l) c s f = numeral-back wholeOf wholeText 1000 whole-round l c s f
+reads-back (OfFactor l) c s f = numeral-back factorOf factorText 100000 factor-round l c s f
+reads-back OfThreshold c s f = ap thresholdField (threshold-round c f)

@@ -10,7 +10,7 @@ use borrow.Author.Tests.{eq-eqb, ne-eqb, lt-ltb, le-ltb}
 use lib.ListN.{length, getD, take, drop, drop-of-length-le, length-drop}
 use lib.Seq.{drop-cons, drop-drop}
 use lib.Dec.{eqb, ltb}
-use Rattle.numerals.specs.Digits.{part}
+use Rattle.numerals.specs.Runs.{part}
 use Rattle.ground.proofs.Cases.{below, cond-cases}
 use Rattle.numbers.specs.declared.threshold.Threshold.{Threshold}
 use Rattle.settings.specs.Models.{channels}
@@ -19,11 +19,11 @@ use Rattle.settings.specs.Kinds.{kinds, packed}
 use Rattle.settings.specs.Rows.{plain}
 use Rattle.settings.specs.declared.model.Model.{Model}
 use Rattle.settings.specs.declared.mnemonic.Mnemonic.{Mnemonic}
-use Rattle.settings.specs.declared.mnemonic.Mnemonic.the-variants.{Setting as Of, Cf, Query as Asked, Com, Sav}
+use Rattle.settings.specs.declared.mnemonic.Mnemonic.the-variants.{OfSetting, Cf, OfQuery, Com, Sav}
 use Rattle.settings.specs.declared.mnemonic.Named.{Named}
 use Rattle.settings.specs.declared.mnemonic.Named.the-variants.{Known}
 use Rattle.settings.specs.declared.kinds.Kind.{Kind}
-use Rattle.settings.specs.declared.kinds.Kind.the-variants.{Threshold as Level}
+use Rattle.settings.specs.declared.kinds.Kind.the-variants.{OfThreshold}
 use Rattle.settings.specs.declared.kinds.Kinds.{Kinds}
 use Rattle.settings.proofs.Names.{not-three}
 use Rattle.settings.proofs.Sheets.{few}
@@ -31,13 +31,13 @@ use Rattle.text.specs.Spans.{until}
 use Rattle.text.proofs.Marks.{until-few}
 use Rattle.lines.specs.Splitting.{fields, onFirst, word, behind}
 use Rattle.lines.specs.Fields.{read}
-use Rattle.lines.specs.Judging.{readings, formed, valued, judgedFields, alone, withFields, named, parted, judged}
+use Rattle.lines.specs.Judging.{fieldsRead, formed, valued, judgedFields, alone, withFields, named, parted, judged}
 use Rattle.lines.specs.Walk.{headField, beyond, Taken}
 use Rattle.lines.specs.declared.verdict.Fault.the-variants.{Syntax, Hardware}
 use Rattle.lines.specs.declared.verdict.Field.{Field}
 use Rattle.lines.specs.declared.verdict.Field.the-variants.{Held}
 use Rattle.lines.specs.declared.verdict.Verdict.the-variants.{Refused}
-use Rattle.lines.specs.declared.fields.Got.{Got}
+use Rattle.lines.specs.declared.fields.FieldOutcome.{FieldOutcome}
 
 -- ---- a first field, and the others
 
@@ -148,12 +148,12 @@ abbrev walked : List Kind → List ℕ → List Field
 walked ks s =
     let n = length ks in
     let t = beyond (ltb 0 n) s in
-    headField (ltb 0 n) (getD ks 0 Level) s ∷ headField (ltb 1 n) (getD ks 1 Level) t ∷ headField (ltb 2 n) (getD ks 2 Level) (beyond (ltb 1 n) t) ∷ []
+    headField (ltb 0 n) (getD ks 0 OfThreshold) s ∷ headField (ltb 1 n) (getD ks 1 OfThreshold) t ∷ headField (ltb 2 n) (getD ks 2 OfThreshold) (beyond (ltb 1 n) t) ∷ []
 
 -- reading them so is reading the list of fields
 walked-is : (m : Mnemonic) (ks : List Kind) (s : List ℕ) → length (fields s) ≡ length ks → length ks ≤ 3
-    → judgedFields m (walked ks s) ≡ judgedFields m (readings ks (fields s))
-unfolding readings formed valued
+    → judgedFields m (walked ks s) ≡ judgedFields m (fieldsRead ks (fields s))
+unfolding fieldsRead formed valued
 walked-is m [] s e h = absurd (omega (arith, some-fields s))
 walked-is m (k ∷ []) s e h = rw (last-of s e)
 walked-is m (k ∷ l ∷ []) s e h =
@@ -167,14 +167,14 @@ walked-is m (k ∷ l ∷ n ∷ []) s e h =
     rw (a, b, c)
 walked-is m (k ∷ l ∷ n ∷ o ∷ ks) s e h = absurd (omega arith)
 
-walked-by : (ks : List Kind) (s : List ℕ) (a : ℕ) (x y z : Got)
-    → Taken (ltb 0 (length ks)) (getD ks 0 Level) s a x → Taken (ltb 1 (length ks)) (getD ks 1 Level) s (x .next) y
-    → Taken (ltb 2 (length ks)) (getD ks 2 Level) s (y .next) z
+walked-by : (ks : List Kind) (s : List ℕ) (a : ℕ) (x y z : FieldOutcome)
+    → Taken (ltb 0 (length ks)) (getD ks 0 OfThreshold) s a x → Taken (ltb 1 (length ks)) (getD ks 1 OfThreshold) s (x .next) y
+    → Taken (ltb 2 (length ks)) (getD ks 2 OfThreshold) s (y .next) z
     → x .field ∷ y .field ∷ z .field ∷ [] ≡ walked ks (drop a s)
 walked-by ks s a x y z p q r = rw (p .field, q .field, r .field, q .rest, p .rest)
 
 judged-by : (model : Model) (m : Mnemonic) (fs : List (List ℕ)) → 1 ≤ length fs → length fs ≡ length (kinds model m)
-    → judgedFields m (readings (kinds model m) fs) ≡ withFields model m fs
+    → judgedFields m (fieldsRead (kinds model m) fs) ≡ withFields model m fs
 unfolding withFields
 judged-by model m [] h e = absurd (omega arith)
 judged-by model m (f ∷ fs) h e = rw (eq-eqb (length (f ∷ fs)) (length (kinds model m)) e)
@@ -185,14 +185,14 @@ wrong-by model m [] h e = absurd (omega arith)
 wrong-by model m (f ∷ fs) h e = rw (ne-eqb (length (f ∷ fs)) (length (kinds model m)) e)
 
 few-kinds : (model : Model) (m : Mnemonic) → length (kinds model m) ≤ 3
-few-kinds model (Of x) = few model x
+few-kinds model (OfSetting x) = few model x
 few-kinds model (Cf k) = omega arith
-few-kinds model (Asked q) = omega arith
+few-kinds model (OfQuery q) = omega arith
 few-kinds model Com = omega arith
 few-kinds model Sav = omega arith
 
 module _ (model : Model) (m : Mnemonic) (ks : Kinds) (e : ks ≡ packed (kinds model m)) (s : List ℕ) (a : ℕ) where
-  pub fields-judged : (x y z : Got) → length (fields (drop a s)) ≡ ks .count → Taken (ltb 0 (ks .count)) (ks .first) s a x
+  pub fields-judged : (x y z : FieldOutcome) → length (fields (drop a s)) ≡ ks .count → Taken (ltb 0 (ks .count)) (ks .first) s a x
       → Taken (ltb 1 (ks .count)) (ks .second) s (x .next) y → Taken (ltb 2 (ks .count)) (ks .third) s (y .next) z
       → judgedFields m (x .field ∷ y .field ∷ z .field ∷ []) ≡ withFields model m (fields (drop a s))
   fields-judged x y z n p q r =

@@ -6,16 +6,16 @@ use lib.Dec.{leb}
 use Rattle.text.specs.Digits.{wholeText, factorText}
 use Rattle.numbers.specs.declared.threshold.Threshold.{Threshold}
 use Rattle.numerals.specs.Whole.{wholeOf, factorOf}
-use Rattle.numerals.specs.Threshold.{thresholdOf}
+use Rattle.numerals.specs.Exponential.{thresholdOf}
 use Rattle.numerals.specs.Writing.{thresholdText}
 use Rattle.numerals.specs.declared.whole.Numeral.{Numeral}
-use Rattle.numerals.specs.declared.whole.Numeral.the-variants.{Number, Malformed as NoNumber}
-use Rattle.numerals.specs.declared.threshold.ThresholdNumeral.{ThresholdNumeral}
-use Rattle.numerals.specs.declared.threshold.ThresholdNumeral.the-variants.{Within, Malformed as NoThreshold, OutOfRange}
+use Rattle.numerals.specs.declared.whole.Numeral.the-variants.{Number, NoNumber}
+use Rattle.numerals.specs.declared.exponential.ThresholdNumeral.{ThresholdNumeral}
+use Rattle.numerals.specs.declared.exponential.ThresholdNumeral.the-variants.{Within, NoThreshold, OutOfRange}
 use Rattle.settings.specs.Rows.{plain}
 use Rattle.settings.specs.declared.kinds.Limits.{Limits}
 use Rattle.settings.specs.declared.kinds.Kind.{Kind}
-use Rattle.settings.specs.declared.kinds.Kind.the-variants.{Whole, Factor, Threshold as Level}
+use Rattle.settings.specs.declared.kinds.Kind.the-variants.{OfWhole, OfFactor, OfThreshold}
 use Rattle.lines.specs.declared.verdict.Fault.{Fault}
 use Rattle.lines.specs.declared.verdict.Fault.the-variants.{Syntax, Parameter, Hardware}
 use Rattle.lines.specs.declared.verdict.Field.{Field}
@@ -46,12 +46,12 @@ thresholdField (Within t) = Held t
 
 -- a field read by its kind
 abbrev pub read : Kind → List ℕ → Field
-read (Whole l) t = ranged l (wholeOf t)
-read (Factor l) t = ranged l (factorOf t)
-read Level t = thresholdField (thresholdOf t)
+read (OfWhole l) t = ranged l (wholeOf t)
+read (OfFactor l) t = ranged l (factorOf t)
+read OfThreshold t = thresholdField (thresholdOf t)
 
 -- "Replies: whole numbers without leading zeros, factors as 1.000, thresholds as d.ddddE, sign, two digits"
 abbrev pub write : Kind → Threshold → List ℕ
-write (Whole l) c = wholeText (c .mantissa)
-write (Factor l) c = factorText (c .mantissa)
-write Level c = thresholdText c
+write (OfWhole l) c = wholeText (c .mantissa)
+write (OfFactor l) c = factorText (c .mantissa)
+write OfThreshold c = thresholdText c

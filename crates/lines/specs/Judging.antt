@@ -13,7 +13,7 @@ use Rattle.settings.specs.Kinds.{kinds}
 use Rattle.settings.specs.Rows.{plain, pairRow, stored}
 use Rattle.settings.specs.declared.model.Model.{Model}
 use Rattle.settings.specs.declared.mnemonic.Mnemonic.{Mnemonic}
-use Rattle.settings.specs.declared.mnemonic.Mnemonic.the-variants.{Setting as Of, Cf, Query as Asked, Com, Sav}
+use Rattle.settings.specs.declared.mnemonic.Mnemonic.the-variants.{OfSetting, Cf, OfQuery, Com, Sav}
 use Rattle.settings.specs.declared.mnemonic.Named.{Named}
 use Rattle.settings.specs.declared.mnemonic.Named.the-variants.{Known, Unknown}
 use Rattle.settings.specs.declared.kinds.Kind.{Kind}
@@ -28,10 +28,10 @@ use Rattle.lines.specs.declared.verdict.Verdict.{Verdict}
 use Rattle.lines.specs.declared.verdict.Verdict.the-variants.{Asks, Writes, Refused}
 
 -- each field read by its kind
-unfoldable pub readings : List Kind → List (List ℕ) → List Field
-readings [] fs = []
-readings (k ∷ ks) [] = []
-readings (k ∷ ks) (f ∷ fs) = read k f ∷ readings ks fs
+unfoldable pub fieldsRead : List Kind → List (List ℕ) → List Field
+fieldsRead [] fs = []
+fieldsRead (k ∷ ks) [] = []
+fieldsRead (k ∷ ks) (f ∷ fs) = read k f ∷ fieldsRead ks fs
 
 -- a malformed field is refused, whatever else would be said
 abbrev pub formOr : Field → Verdict → Verdict
@@ -71,9 +71,9 @@ judgedFields m rs = formed rs (valued rs (Writes m (rowOf (map cellOf rs))))
 
 -- "With no comma the line asks for the setting; only COM (0 to 2) and SAV (0 to 1) then have a default": "COM alone is 1", "SAV with 0 or nothing"
 abbrev pub alone : Mnemonic → Verdict
-alone (Of x) = Asks (Of x)
+alone (OfSetting x) = Asks (OfSetting x)
 alone (Cf k) = Asks (Cf k)
-alone (Asked q) = Asks (Asked q)
+alone (OfQuery q) = Asks (OfQuery q)
 alone Com = Writes Com (pairRow 1 0)
 alone Sav = Writes Sav (pairRow 0 0)
 
@@ -81,7 +81,7 @@ alone Sav = Writes Sav (pairRow 0 0)
 unfoldable pub withFields : Model → Mnemonic → List (List ℕ) → Verdict
 withFields model m [] = alone m
 withFields model m (f ∷ fs) =
-    cond (eqb (length (f ∷ fs)) (length (kinds model m))) (judgedFields m (readings (kinds model m) (f ∷ fs))) (Refused Syntax)
+    cond (eqb (length (f ∷ fs)) (length (kinds model m))) (judgedFields m (fieldsRead (kinds model m) (f ∷ fs))) (Refused Syntax)
 
 -- "mnemonic unknown .., 0001; PR2 or CF2 on a 361, 0100"
 abbrev pub named : Model → Named → List (List ℕ) → Verdict

@@ -5,16 +5,16 @@ use mathlib.Core.List.{List, [], _∷_, _++_}
 use Rattle.settings.specs.Mnemonics.{name}
 use Rattle.settings.specs.declared.model.Model.{Model}
 use Rattle.settings.specs.declared.mnemonic.Setting.{Setting}
-use Rattle.settings.specs.declared.mnemonic.Mnemonic.the-variants.{Setting as Of}
+use Rattle.settings.specs.declared.mnemonic.Mnemonic.the-variants.{OfSetting}
 use Rattle.settings.specs.declared.Settings.{Settings}
 use Rattle.lines.specs.Judging.{judged, effect}
 use Rattle.lines.specs.Replies.{settingText}
 
 -- a setting's line of the sheet: its name, a comma and its reply
-abbrev pub lineOf : Model → Settings → Setting → List ℕ
-lineOf model s x = name (Of x) ++ (code "," ∷ settingText model s x)
+abbrev pub sheetLine : Model → Settings → Setting → List ℕ
+sheetLine model s x = name (OfSetting x) ++ (code "," ∷ settingText model s x)
 
 -- the settings after lines, one after the other
-abbrev pub after : Model → Settings → List (List ℕ) → Settings
-after model s [] = s
-after model s (line ∷ lines) = after model (effect model s (judged model line)) lines
+abbrev pub settingsAfter : Model → Settings → List (List ℕ) → Settings
+settingsAfter model s [] = s
+settingsAfter model s (line ∷ lines) = settingsAfter model (effect model s (judged model line)) lines

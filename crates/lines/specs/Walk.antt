@@ -12,7 +12,7 @@ use Rattle.lines.specs.Splitting.{word, behind}
 use Rattle.lines.specs.Fields.{read, write}
 use Rattle.lines.specs.declared.verdict.Field.{Field}
 use Rattle.lines.specs.declared.verdict.Field.the-variants.{Held}
-use Rattle.lines.specs.declared.fields.Got.{Got}
+use Rattle.lines.specs.declared.fields.FieldOutcome.{FieldOutcome}
 
 -- the field at the head of what is left of a line, where there is one to be read
 abbrev pub headField : Bool → Kind → List ℕ → Field
@@ -23,7 +23,7 @@ abbrev pub beyond : Bool → List ℕ → List ℕ
 beyond has s = cond has (behind s) s
 
 -- what taking a field from place a on gives
-pub record Taken (has : Bool) (kind : Kind) (s : List ℕ) (a : ℕ) (r : Got) : Type 0 where
+pub record Taken (has : Bool) (kind : Kind) (s : List ℕ) (a : ℕ) (r : FieldOutcome) : Type 0 where
   pub field : r .field ≡ headField has kind (drop a s)
   pub rest : drop (r .next) s ≡ beyond has (drop a s)
   pub inside : r .next ≤ length s

@@ -2,14 +2,14 @@
 ghost use mathlib.Core.Path.{_≡_};
 ghost use Prim.Native.Nat.{_+_, _≤_};
 ghost use lib.ListN.{length, drop};
-ghost use Rattle.numerals.specs.Digits.{part};
+ghost use Rattle.numerals.specs.Runs.{part};
 ghost use Rattle.lines.specs.Splitting.{fields, word};
 ghost use Rattle.lines.specs.Fields.{limited, ranged, thresholdField, read};
 ghost use Rattle.lines.specs.Walk.{Taken};
 use crate::verdict::Fault;
 use crate::verdict::Field;
-use numerals::threshold::ThresholdNumeral;
-use numerals::threshold::read_threshold;
+use numerals::exponential::ThresholdNumeral;
+use numerals::exponential::read_threshold;
 use numerals::whole::Numeral;
 use numerals::whole::read_factor;
 use numerals::whole::read_whole;
@@ -60,7 +60,7 @@ fn ranged(l: Limits, t: Numeral) -> Field
     ensures { λ r. ⌜ r ≡ ranged l t ⌝ }
 {
     match t {
-        Numeral::Malformed => Field::Malformed,
+        Numeral::NoNumber => Field::Malformed,
         Numeral::Number(n) => limited(l, n),
     }
 }
@@ -69,7 +69,7 @@ fn threshold_field(t: ThresholdNumeral) -> Field
     ensures { λ r. ⌜ r ≡ thresholdField t ⌝ }
 {
     match t {
-        ThresholdNumeral::Malformed => Field::Malformed,
+        ThresholdNumeral::NoThreshold => Field::Malformed,
         ThresholdNumeral::OutOfRange => Field::Faulty(Fault::Parameter),
         ThresholdNumeral::Within(c) => Field::Held(c),
     }
@@ -80,20 +80,20 @@ fn read(kind: Kind, s: &[u8], a: usize, e: usize) -> Field
     ensures { λ r. ⌜ r ≡ read kind (part a e (now (s .entry))) ⌝ }
 {
     match kind {
-        Kind::Whole(l) => ranged(l, read_whole(s, a, e)),
-        Kind::Factor(l) => ranged(l, read_factor(s, a, e)),
-        Kind::Threshold => threshold_field(read_threshold(s, a, e)),
+        Kind::OfWhole(l) => ranged(l, read_whole(s, a, e)),
+        Kind::OfFactor(l) => ranged(l, read_factor(s, a, e)),
+        Kind::OfThreshold => threshold_field(read_threshold(s, a, e)),
     }
 }
 
 // A field, and where the next one starts.
-pub(crate) struct Got {
+pub(crate) struct FieldOutcome {
     pub field: Field,
     pub next: usize,
 }
 
 // The field that starts at a, where there is one to be read; else nothing is held, and nothing passed by.
-pub(crate) fn take_field(has: bool, kind: Kind, s: &[u8], a: usize) -> Got
+pub(crate) fn take_field(has: bool, kind: Kind, s: &[u8], a: usize) -> FieldOutcome
     requires { ⌜ a ≤ length (now s) ⌝ }
     ensures { λ r. ⌜ Taken has kind (now (s .entry)) a r ⌝ }
 {
@@ -101,12 +101,12 @@ pub(crate) fn take_field(has: bool, kind: Kind, s: &[u8], a: usize) -> Got
         let e = field_end(s, a);
         let field = read(kind, s, a, e);
         if e < s.len() {
-            return Got { field, next: e + 1 };
+            return FieldOutcome { field, next: e + 1 };
         }
-        return Got { field, next: e };
+        return FieldOutcome { field, next: e };
     }
     let c = plain(0);
-    Got {
+    FieldOutcome {
         field: Field::Held(c),
         next: a,
     }

@@ -51,9 +51,9 @@ fn judge_alone(m: Mnemonic) -> Verdict
     ensures { λ r. ⌜ r ≡ alone m ⌝ }
 {
     match m {
-        Mnemonic::Setting(_) => Verdict::Asks(m),
+        Mnemonic::OfSetting(_) => Verdict::Asks(m),
         Mnemonic::Cf(_) => Verdict::Asks(m),
-        Mnemonic::Query(_) => Verdict::Asks(m),
+        Mnemonic::OfQuery(_) => Verdict::Asks(m),
         Mnemonic::Com => Verdict::Writes(m, pair_row(COM_ALONE, 0)),
         Mnemonic::Sav => Verdict::Writes(m, pair_row(SAV_ALONE, 0)),
     }

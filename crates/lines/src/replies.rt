@@ -24,9 +24,9 @@ fn write_cell(out: &mut [u8], at: usize, kind: Kind, cell: Threshold) -> usize
     ensures { λ r. ⌜ page (now (out .exit)) r ≡ puts (page (now (out .entry)) at) (write kind cell) ⌝ }
 {
     match kind {
-        Kind::Whole(_) => whole(out, at, cell.mantissa),
-        Kind::Factor(_) => factor(out, at, cell.mantissa),
-        Kind::Threshold => write_threshold(out, at, cell),
+        Kind::OfWhole(_) => whole(out, at, cell.mantissa),
+        Kind::OfFactor(_) => factor(out, at, cell.mantissa),
+        Kind::OfThreshold => write_threshold(out, at, cell),
     }
 }
 
@@ -45,7 +45,7 @@ fn write_more(out: &mut [u8], at: usize, has: bool, kind: Kind, cell: Threshold)
 fn write_setting(out: &mut [u8], at: usize, model: Model, s: Settings, x: Setting) -> usize
     ensures { λ r. ⌜ page (now (out .exit)) r ≡ puts (page (now (out .entry)) at) (settingText model s x) ⌝ }
 {
-    let ks = model.shape(Mnemonic::Setting(x));
+    let ks = model.shape(Mnemonic::OfSetting(x));
     let n = ks.count;
     let first = ks.first;
     let second = ks.second;

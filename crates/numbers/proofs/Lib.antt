@@ -6,4 +6,4 @@ pub mod Scaling
 pub mod Stops
 pub mod Order
 pub mod Instances
-pub mod Factors
+pub mod UnitFactors

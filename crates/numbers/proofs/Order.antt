@@ -12,7 +12,7 @@ use lib.Signed.{ltZ, leZ, nonNeg, pos-natAbs}
 use mir.Syntax.{w32}
 use mir.Val.{Fits, SFits, toZ, ofZ}
 use mir.Facts.{toZ-ofZ, fits-natAbs}
-use Rattle.ground.proofs.Cases.{below, ranged}
+use Rattle.ground.proofs.Cases.{below, in-range}
 use Rattle.numbers.proofs.Stops.{stops-digits}
 use Rattle.numbers.proofs.Fractions.{tens-some, tenths-some}
 use Rattle.numbers.specs.Numbers.{isNumber, withinStops, tens, tenths, less, isBelow, isAbove}
@@ -167,7 +167,7 @@ module _ {v : Value} {t : Threshold} {n w : Bool} (beside : Beside v t n w) wher
       value-digits : (10000 ≤ natAbs (v .mantissa)) × (natAbs (v .mantissa) ≤ 99999)
       value-digits =
           let h = rw (ne-eqb (natAbs (v .mantissa)) 0 (not-zero (v .mantissa) positive)) at is-number in
-          ranged 10000 99999 (natAbs (v .mantissa)) (and-eq-true-iff _ _ .0 h .0)
+          in-range 10000 99999 (natAbs (v .mantissa)) (and-eq-true-iff _ _ .0 h .0)
 
       pub positive-cast : T (nonNeg (read (v .mantissa))) × Fits w32 (natAbs (read (v .mantissa)))
       positive-cast = rw (toZ-ofZ (beside .digits)) (not-negative (v .mantissa) positive, fits-natAbs tt (beside .digits))

@@ -7,7 +7,7 @@ use native.Mathlib.Omega.{arith}
 use native.Mathlib.Nat.{mul-le-mul, mul-one}
 use lib.Dec.{leb}
 use lib.IntN.{ℤ, pos, negsuc, natAbs, _-ℤ_}
-use Rattle.ground.proofs.Cases.{ranged, true-or-false}
+use Rattle.ground.proofs.Cases.{in-range, true-or-false}
 use Rattle.numbers.proofs.Signed.{abs-minus, abs-neg, between-near}
 use Rattle.numbers.specs.Numbers.{fiveDigits, between, isFive, signed}
 use Rattle.numbers.specs.Rounding.{isUsable, product, scaledBy, Nearest}
@@ -25,10 +25,10 @@ module _ (v : Value) (r : Ratio) (h : isFive v && isUsable r ≡ true) where
   scaled-range =
       let m = natAbs (v .mantissa) in
       let both = and-eq-true-iff (isFive v) (isUsable r) .0 h in
-      let digits = ranged 10000 99999 m (and-eq-true-iff (fiveDigits m) (between (negsuc 98) (pos 99) (v .exponent)) .0 (both .0) .0) in
+      let digits = in-range 10000 99999 m (and-eq-true-iff (fiveDigits m) (between (negsuc 98) (pos 99) (v .exponent)) .0 (both .0) .0) in
       let parts = and-eq-true-iff (leb 1 (r .over) && leb (r .over) 1000000000000) (leb 1 (r .under) && leb (r .under) 1000000000000) .0 (both .1) in
-      let over = ranged 1 1000000000000 (r .over) (parts .0) in
-      let under = ranged 1 1000000000000 (r .under) (parts .1) in
+      let over = in-range 1 1000000000000 (r .over) (parts .0) in
+      let under = in-range 1 1000000000000 (r .under) (parts .1) in
       omega (arith, mul-le-mul (digits .0) (over .0), mul-le-mul (digits .1) (over .1))
 
   pub exponent-range : natAbs (v .exponent) ≤ 99
@@ -73,6 +73,6 @@ pub scaled-one : (v : Value) (r : Ratio) → r .over ≡ 1 → r .under ≡ 1 �
 scaled-one v r o u =
     ⊎-elim (λ (h : isFive v && isUsable r ≡ true).
     let m = natAbs (v .mantissa) in
-    let digits = ranged 10000 99999 m (and-eq-true-iff (fiveDigits m) (between (negsuc 98) (pos 99) (v .exponent)) .0 (and-eq-true-iff (isFive v) (isUsable r) .0 h .0) .0) in
+    let digits = in-range 10000 99999 m (and-eq-true-iff (fiveDigits m) (between (negsuc 98) (pos 99) (v .exponent)) .0 (and-eq-true-iff (isFive v) (isUsable r) .0 h .0) .0) in
     let same : product v r ≡ record { mantissa = m; exponent = v .exponent } = rw (o, u, mul-one m) (round-exact m (v .exponent) (digits .0) (digits .1)) in
     rw (scaled-is v r h, same, signed-abs)) (scaled-not v r) (true-or-false (isFive v && isUsable r))

@@ -6,7 +6,7 @@ use lib.IntN.{ℤ, pos, natAbs, _+ℤ_, _-ℤ_}
 use Rattle.numbers.specs.Numbers.{isFive, withinStops, signed, tens, tenths}
 use Rattle.numbers.specs.declared.threshold.Threshold.{Threshold}
 use Rattle.numbers.specs.declared.threshold.Fitted.{Fitted}
-use Rattle.numbers.specs.declared.threshold.Fitted.the-variants.{Within, Outside}
+use Rattle.numbers.specs.declared.threshold.Fitted.the-variants.{Fits, Outside}
 use Rattle.numbers.specs.declared.value.Value.{Value}
 use Rattle.numbers.specs.declared.value.Ratio.{Ratio}
 
@@ -44,12 +44,12 @@ rounded n d x =
     (record { mantissa = five n d; exponent = power n d x })
 
 -- "zero, or a result outside 1.0000E-20 to 9.9999E+20, is 0010"
-abbrev pub stopped : Threshold → Fitted
-stopped t = cond (withinStops t) (Within t) Outside
+abbrev pub heldToStops : Threshold → Fitted
+heldToStops t = cond (withinStops t) (Fits t) Outside
 
 -- the threshold that n times ten to the x is
 unfoldable pub fittedTo : ℕ → ℤ → Fitted
-fittedTo n x = cond (eqb n 0) Outside (stopped (rounded n 1 x))
+fittedTo n x = cond (eqb n 0) Outside (heldToStops (rounded n 1 x))
 
 -- a ratio that is carried exactly: both parts from 1 to 10^12
 abbrev pub isUsable : Ratio → Bool

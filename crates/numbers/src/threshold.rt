@@ -12,7 +12,7 @@ pub struct Threshold {
 
 // A number as a threshold, or none that holds it.
 pub enum Fitted {
-    Within(Threshold),
+    Fits(Threshold),
     Outside,
 }
 
@@ -48,7 +48,7 @@ impl Threshold {
         if near {
             let t = rounded(n, 1, x);
             if t.is_within() {
-                return Fitted::Within(t);
+                return Fitted::Fits(t);
             }
         }
         Fitted::Outside

@@ -11,7 +11,7 @@ use borrow.Author.Tests.{le-leb, lt-leb, leb-true, eq-eqb, ne-eqb, eqb-true, eqb
 use lib.ListN.{length, getD, drop, take, drop-of-length-le, length-drop}
 use lib.Seq.{drop-cons, drop-drop, take-all, length-take-le}
 use lib.Dec.{T, leb, eqb}
-use Rattle.numerals.specs.Digits.{part, isDigit, lead, rest, headIs, value}
+use Rattle.numerals.specs.Runs.{part, isDigit, lead, rest, headIs, value}
 use Rattle.ground.proofs.Cases.{below}
 
 module _ (i : ℕ) (s : List ℕ) where

@@ -1,23 +1,23 @@
--- What the definitions give where docs/PROMISES.md names a wrong answer.
+-- What the definitions give where docs/promises/ names a wrong answer.
 use mathlib.Core.Path.{_≡_, refl}
 use mathlib.Core.List.{List, [], _∷_, map}
 use lib.IntN.{pos, negsuc}
 use Rattle.text.specs.Text.{ascii}
 use Rattle.numbers.specs.declared.value.Value.{Value}
-use Rattle.numerals.specs.Digits.{lead, rest, headIs, value}
+use Rattle.numerals.specs.Runs.{lead, rest, headIs, value}
 use Rattle.numerals.specs.Whole.{numberOf, behindPoint, factorOf}
 use Rattle.numerals.specs.Writing.{scientific, valueText}
-use Rattle.numerals.specs.declared.whole.Numeral.the-variants.{Number, Malformed}
+use Rattle.numerals.specs.declared.whole.Numeral.the-variants.{Number, NoNumber}
 
 -- tenths, hundredths and thousandths; and a comma, which is no point
-pub factor-digits : map factorOf (ascii "0.5" ∷ ascii "0.05" ∷ ascii "0.005" ∷ ascii "0,5" ∷ []) ≡ Number 500 ∷ Number 50 ∷ Number 5 ∷ Malformed ∷ []
+pub factor-places : map factorOf (ascii "0.5" ∷ ascii "0.05" ∷ ascii "0.005" ∷ ascii "0,5" ∷ []) ≡ Number 500 ∷ Number 50 ∷ Number 5 ∷ NoNumber ∷ []
 unfolding lead rest headIs value numberOf behindPoint factorOf
-factor-digits = refl
+factor-places = refl
 
 -- "sign (+ for zero), d.ddddE, sign, two digits"
 abbrev values : List Value
 values = record { mantissa = pos 0; exponent = pos 0 } ∷ record { mantissa = negsuc 67889; exponent = negsuc 11 } ∷ []
 
-pub value-digits : map valueText values ≡ ascii "+0.0000E+00" ∷ ascii "-6.7890E-12" ∷ []
+pub value-texts : map valueText values ≡ ascii "+0.0000E+00" ∷ ascii "-6.7890E-12" ∷ []
 unfolding scientific
-value-digits = refl
+value-texts = refl

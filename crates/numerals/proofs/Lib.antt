@@ -1,8 +1,8 @@
 pub mod DigitRuns
 pub mod Wholes
 pub mod Powers
-pub mod Judging
+pub mod Composing
 pub mod Stops
 pub mod RoundTrip
-pub mod Rows
+pub mod Examples
 pub mod Instances

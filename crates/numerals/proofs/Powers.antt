@@ -10,13 +10,13 @@ use borrow.Author.Tests.{eq-eqb, ne-eqb}
 use lib.ListN.{length, drop, length-drop}
 use lib.Dec.{eqb}
 use lib.IntN.{pos, natAbs}
-use Rattle.numerals.specs.Digits.{headIs}
+use Rattle.numerals.specs.Runs.{headIs}
 use Rattle.numerals.specs.Whole.{numberOf}
-use Rattle.numerals.specs.Threshold.{withSign, afterSign, signedPower, powerOf}
-use Rattle.numerals.specs.declared.threshold.Power.{Power}
-use Rattle.numerals.specs.declared.threshold.Power.the-variants.{Ten, NoPower}
+use Rattle.numerals.specs.Exponential.{withSign, afterSign, signedPower, powerOf}
+use Rattle.numerals.specs.declared.exponential.Power.{Power}
+use Rattle.numerals.specs.declared.exponential.Power.the-variants.{Ten, NoPower}
 use Rattle.numerals.specs.declared.whole.Numeral.{Numeral}
-use Rattle.numerals.specs.declared.whole.Numeral.the-variants.{Number, Malformed}
+use Rattle.numerals.specs.declared.whole.Numeral.the-variants.{Number, NoNumber}
 use Rattle.ground.proofs.Cases.{cond-cases, or-either}
 use Rattle.numerals.proofs.DigitRuns.{drop-one, head-in}
 use Rattle.numbers.proofs.Signed.{abs-neg}
@@ -58,7 +58,7 @@ signed-two s = go (headIs (code "-") s) (numberOf 2 (afterSign s)) refl
     go : (b : Bool) (t : Numeral) → numberOf 2 (afterSign s) ≡ t → TwoDigits (withSign b t)
     go true (Number n) e = omega (arith, number-read 2 (afterSign s) n e .small, abs-neg (pos n))
     go false (Number n) e = number-read 2 (afterSign s) n e .small
-    go b Malformed e = tt
+    go b NoNumber e = tt
 
 pub power-two : (s : List ℕ) → TwoDigits (powerOf s)
 unfolding powerOf

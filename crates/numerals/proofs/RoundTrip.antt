@@ -19,14 +19,14 @@ use Rattle.numbers.specs.Numbers.{withinStops}
 use Rattle.numerals.specs.Writing.{signByte, scientific, thresholdText}
 use Rattle.numbers.specs.Rounding.{fittedTo}
 use Rattle.numbers.specs.declared.threshold.Threshold.{Threshold}
-use Rattle.numbers.specs.declared.threshold.Fitted.the-variants.{Within as Fits}
+use Rattle.numbers.specs.declared.threshold.Fitted.the-variants.{Fits}
 use Rattle.numbers.proofs.Nearest.{round-exact}
 use Rattle.numbers.proofs.Stops.{stops-digits, stops-near, fitted-within}
-use Rattle.numerals.specs.Digits.{isDigit, lead, rest, headIs, value}
+use Rattle.numerals.specs.Runs.{isDigit, lead, rest, headIs, value}
 use Rattle.numerals.specs.Whole.{numberOf, wholeOf, behindPoint, factorOf}
-use Rattle.numerals.specs.Threshold.{afterPlus, afterSign, powerOf, concluded, weighed, judged, fraction, afterFraction, thresholdOf}
-use Rattle.numerals.specs.declared.threshold.ThresholdNumeral.the-variants.{Within}
-use Rattle.numerals.specs.declared.threshold.Power.the-variants.{Ten}
+use Rattle.numerals.specs.Exponential.{afterPlus, afterSign, powerOf, fittedNumeral, weighed, composed, fraction, afterFraction, thresholdOf}
+use Rattle.numerals.specs.declared.exponential.ThresholdNumeral.the-variants.{Within}
+use Rattle.numerals.specs.declared.exponential.Power.the-variants.{Ten}
 use Rattle.numerals.specs.declared.whole.Numeral.the-variants.{Number}
 use Rattle.numerals.proofs.DigitRuns.{value-none}
 use Rattle.numerals.proofs.Wholes.{number-is, factor-taken}
@@ -177,7 +177,7 @@ module _ (d : ℕ) (h : d < 10) (s : List ℕ) where
   unfolding rest
   first-rest = rw (is-digit d h)
 
-  first-point : thresholdOf ((48 + d) ∷ code "." ∷ s) ≡ judged ((48 + d) ∷ []) (lead s) (rest s)
+  first-point : thresholdOf ((48 + d) ∷ code "." ∷ s) ≡ composed ((48 + d) ∷ []) (lead s) (rest s)
   unfolding thresholdOf fraction afterFraction headIs
   first-point = rw (first-plus, first-lead, first-rest)
 
@@ -194,14 +194,14 @@ fits-round t h =
 
 -- for every threshold within the end stops
 pub threshold-round : (t : Threshold) → withinStops t ≡ true → thresholdOf (thresholdText t) ≡ Within t
-unfolding scientific judged lead rest
+unfolding scientific composed lead rest
 threshold-round t h =
     let m = t .mantissa in
     let e = t .exponent in
     let d = m / 10000 / 1 % 10 in
     let tail : List ℕ = code "E" ∷ signByte e ∷ dig 2 (natAbs e) in
     first-point d (omega arith) (dig 4 m ++ tail)
-    ∙ ap₂ (judged ((48 + d) ∷ [])) (lead-dig 4 m tail refl) (rest-dig 4 m tail refl)
+    ∙ ap₂ (composed ((48 + d) ∷ [])) (lead-dig 4 m tail refl) (rest-dig 4 m tail refl)
     ∙ ap (weighed (dig 1 (m / 10000) ++ dig 4 m) 4) (power-round e (omega (arith, stops-near t h)))
-    ∙ ap (λ (n : ℕ). concluded (fittedTo n (e -ℤ pos 4))) (five-value m (stops-digits t h .1))
-    ∙ ap concluded (fits-round t h)
+    ∙ ap (λ (n : ℕ). fittedNumeral (fittedTo n (e -ℤ pos 4))) (five-value m (stops-digits t h .1))
+    ∙ ap fittedNumeral (fits-round t h)

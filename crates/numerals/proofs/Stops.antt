@@ -7,21 +7,21 @@ use mathlib.Core.Bool.{Bool, true, false, cond}
 use native.Mathlib.Omega.{arith}
 use lib.ListN.{length, drop}
 use lib.IntN.{ℤ, pos, _-ℤ_}
-use Rattle.ground.proofs.Cases.{cond-cases, ranged, never}
+use Rattle.ground.proofs.Cases.{cond-cases, in-range, never}
 use Rattle.numbers.proofs.Stops.{fitted-stops, fitted-nearest}
 use Rattle.numbers.specs.Numbers.{withinStops}
 use Rattle.numbers.specs.Rounding.{fittedTo, Nearest}
 use Rattle.numbers.specs.declared.threshold.Threshold.{Threshold}
 use Rattle.numbers.specs.declared.threshold.Fitted.{Fitted}
-use Rattle.numbers.specs.declared.threshold.Fitted.the-variants.{Within as Fits, Outside}
+use Rattle.numbers.specs.declared.threshold.Fitted.the-variants.{Fits, Outside}
 use Rattle.numerals.proofs.DigitRuns.{AllDigits, lead-digits, digits-join, value-below}
-use Rattle.numerals.specs.Digits.{lead, rest, headIs, count, value}
-use Rattle.numerals.specs.Threshold.{afterPlus, fraction, powerOf, concluded, weighed, judged, wholePart, fractionPart, powerPart, thresholdOf}
-use Rattle.numerals.specs.declared.threshold.ThresholdNumeral.the-variants.{Within, Malformed}
-use Rattle.numerals.specs.declared.threshold.Power.{Power}
-use Rattle.numerals.specs.declared.threshold.Power.the-variants.{Ten, NoPower}
+use Rattle.numerals.specs.Runs.{lead, rest, headIs, lengthIn, value}
+use Rattle.numerals.specs.Exponential.{afterPlus, fraction, powerOf, fittedNumeral, weighed, composed, wholePart, fractionPart, powerPart, thresholdOf}
+use Rattle.numerals.specs.declared.exponential.ThresholdNumeral.the-variants.{Within, NoThreshold}
+use Rattle.numerals.specs.declared.exponential.Power.{Power}
+use Rattle.numerals.specs.declared.exponential.Power.the-variants.{Ten, NoPower}
 
-fits-of : (f : Fitted) (t : Threshold) → concluded f ≡ Within t → f ≡ Fits t
+fits-of : (f : Fitted) (t : Threshold) → fittedNumeral f ≡ Within t → f ≡ Fits t
 fits-of (Fits u) t r = ap Fits (let same : u ≡ t = cc in same)
 fits-of Outside t r = never (cc)
 
@@ -33,15 +33,15 @@ pub record Sent (s : List ℕ) (t : Threshold) : Type 0 where
   pub fits : fittedTo (value 0 (wholePart s ++ fractionPart s)) (e -ℤ pos (length (fractionPart s))) ≡ Fits t
 
 pub sent : (s : List ℕ) (t : Threshold) → thresholdOf s ≡ Within t → Sent s t
-unfolding thresholdOf judged
-sent s t r = go (count 1 12 (wholePart s ++ fractionPart s)) refl (powerOf (powerPart s)) refl r
+unfolding thresholdOf composed
+sent s t r = go (lengthIn 1 12 (wholePart s ++ fractionPart s)) refl (powerOf (powerPart s)) refl r
   where
-    go : (b : Bool) → count 1 12 (wholePart s ++ fractionPart s) ≡ b → (p : Power) → powerOf (powerPart s) ≡ p
-        → cond b (weighed (wholePart s ++ fractionPart s) (length (fractionPart s)) p) Malformed ≡ Within t → Sent s t
+    go : (b : Bool) → lengthIn 1 12 (wholePart s ++ fractionPart s) ≡ b → (p : Power) → powerOf (powerPart s) ≡ p
+        → cond b (weighed (wholePart s ++ fractionPart s) (length (fractionPart s)) p) NoThreshold ≡ Within t → Sent s t
     go true c (Ten e) q r = record {
       e = e;
       power = q;
-      few = ranged 1 12 (length (wholePart s ++ fractionPart s)) c .1;
+      few = in-range 1 12 (length (wholePart s ++ fractionPart s)) c .1;
       fits = fits-of (fittedTo (value 0 (wholePart s ++ fractionPart s)) (e -ℤ pos (length (fractionPart s)))) t r;
     }
     go true c NoPower q r = never (cc)

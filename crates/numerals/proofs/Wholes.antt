@@ -8,18 +8,18 @@ use native.Mathlib.Omega.{arith}
 use borrow.Author.Tests.{le-leb, leb-true, eq-eqb, ne-eqb, eqb-true}
 use lib.ListN.{length, drop, length-drop}
 use lib.Dec.{leb, eqb}
-use Rattle.numerals.specs.Digits.{lead, rest, headIs, count, value}
+use Rattle.numerals.specs.Runs.{lead, rest, headIs, lengthIn, value}
 use Rattle.numerals.specs.Whole.{numberOf, thousandths, behindPoint, factorOf}
-use Rattle.numerals.specs.declared.whole.Numeral.the-variants.{Number, Malformed}
+use Rattle.numerals.specs.declared.whole.Numeral.the-variants.{Number, NoNumber}
 use Rattle.ground.proofs.Cases.{never}
 use Rattle.numerals.proofs.DigitRuns.{drop-one, lead-digits, value-below, lead-rest-length}
 
 module _ (most : ℕ) (s : List ℕ) where
-  pub number-taken : eqb (length (rest s)) 0 && count 1 most (lead s) ≡ true → Number (value 0 (lead s)) ≡ numberOf most s
+  pub number-taken : eqb (length (rest s)) 0 && lengthIn 1 most (lead s) ≡ true → Number (value 0 (lead s)) ≡ numberOf most s
   unfolding numberOf
   number-taken h = rw h
 
-  pub number-left : eqb (length (rest s)) 0 && count 1 most (lead s) ≡ false → Malformed ≡ numberOf most s
+  pub number-left : eqb (length (rest s)) 0 && lengthIn 1 most (lead s) ≡ false → NoNumber ≡ numberOf most s
   unfolding numberOf
   number-left h = rw h
 
@@ -34,11 +34,11 @@ pub record Read (most : ℕ) (s : List ℕ) (n : ℕ) : Type 0 where
 
 pub number-read : (most : ℕ) (s : List ℕ) (n : ℕ) → numberOf most s ≡ Number n → Read most s n
 unfolding numberOf
-number-read most s n q = go (eqb (length (rest s)) 0 && count 1 most (lead s)) refl q
+number-read most s n q = go (eqb (length (rest s)) 0 && lengthIn 1 most (lead s)) refl q
   where
-    go : (t : Bool) → eqb (length (rest s)) 0 && count 1 most (lead s) ≡ t → cond t (Number (value 0 (lead s))) Malformed ≡ Number n → Read most s n
+    go : (t : Bool) → eqb (length (rest s)) 0 && lengthIn 1 most (lead s) ≡ t → cond t (Number (value 0 (lead s))) NoNumber ≡ Number n → Read most s n
     go true e r =
-        let b = and-eq-true-iff (eqb (length (rest s)) 0) (count 1 most (lead s)) .0 e in
+        let b = and-eq-true-iff (eqb (length (rest s)) 0) (lengthIn 1 most (lead s)) .0 e in
         let d = and-eq-true-iff (leb 1 (length (lead s))) (leb (length (lead s)) most) .0 (b .1) in
         let all : length (lead s) ≡ length s = omega (arith, eqb-true (length (rest s)) 0 (b .0), lead-rest-length s) in
         let few : length (lead s) ≤ most = leb-true (length (lead s)) most (d .1) in
@@ -59,7 +59,7 @@ module _ (n : ℕ) (s : List ℕ) where
   unfolding behindPoint
   point-there h e = rw (ne-eqb _ _ h, e)
 
-  point-other : (length s ≡ 0 → ⊥) → headIs (code ".") s ≡ false → Malformed ≡ behindPoint n s
+  point-other : (length s ≡ 0 → ⊥) → headIs (code ".") s ≡ false → NoNumber ≡ behindPoint n s
   unfolding behindPoint
   point-other h e = rw (ne-eqb _ _ h, e)
 
@@ -73,14 +73,14 @@ module _ (n p : ℕ) (s : List ℕ) (h : p ≤ length s) (there : p ≡ length s
       let d : drop 1 (drop p s) ≡ drop (p + 1) s = drop-one p s in
       sym (ap₂ (λ (k : ℕ) (l : List ℕ). thousandths n k (numberOf 3 l)) (ap length d ∙ length-drop (p + 1) s) d) ∙ point-there n (drop p s) left e
 
-  pub point-not : headIs (code ".") (drop p s) ≡ false → Malformed ≡ behindPoint n (drop p s)
+  pub point-not : headIs (code ".") (drop p s) ≡ false → NoNumber ≡ behindPoint n (drop p s)
   point-not e = point-other n (drop p s) left e
 
 module _ (s : List ℕ) where
-  pub factor-taken : count 1 2 (lead s) ≡ true → behindPoint (value 0 (lead s)) (rest s) ≡ factorOf s
+  pub factor-taken : lengthIn 1 2 (lead s) ≡ true → behindPoint (value 0 (lead s)) (rest s) ≡ factorOf s
   unfolding factorOf
   factor-taken h = rw h
 
-  pub factor-left : count 1 2 (lead s) ≡ false → Malformed ≡ factorOf s
+  pub factor-left : lengthIn 1 2 (lead s) ≡ false → NoNumber ≡ factorOf s
   unfolding factorOf
   factor-left h = rw h

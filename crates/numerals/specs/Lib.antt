@@ -1,4 +1,4 @@
-pub mod Digits
+pub mod Runs
 pub mod Whole
-pub mod Threshold
+pub mod Exponential
 pub mod Writing

@@ -2,17 +2,17 @@
 ghost use mathlib.Core.Path.{_≡_};
 ghost use Prim.Native.Nat.{_≤_, _<_, _-_, _*_, _^_};
 ghost use lib.ListN.{length, drop};
-ghost use Rattle.numerals.specs.Digits.{part};
+ghost use Rattle.numerals.specs.Runs.{part};
 ghost use Rattle.numerals.specs.Whole.{numberOf, wholeOf, behindPoint, factorOf};
-use crate::digits::is_at;
-use crate::digits::part;
-use crate::digits::run;
-use crate::digits::value;
+use crate::runs::is_at;
+use crate::runs::part;
+use crate::runs::run;
+use crate::runs::value;
 
 // What a whole number or a factor reads as; a factor counts thousandths.
 pub enum Numeral {
     Number(u32),
-    Malformed,
+    NoNumber,
 }
 
 // One to `most` digits from `at` on, and nothing behind them.
@@ -27,7 +27,7 @@ pub(crate) fn number(s: &[u8], at: usize, most: usize) -> Numeral
     if all & few {
         return Numeral::Number(value(s, at, e) as u32);
     }
-    Numeral::Malformed
+    Numeral::NoNumber
 }
 
 // The whole number in s from start up to end.
@@ -62,11 +62,11 @@ fn behind(n: u32, s: &[u8], p: usize) -> Numeral
     if is_at(s, p, b'.') {
         let t = number(s, p + 1, 3);
         return match t {
-            Numeral::Malformed => Numeral::Malformed,
+            Numeral::NoNumber => Numeral::NoNumber,
             Numeral::Number(m) => Numeral::Number(n * 1000 + thousandths(m, s.len() - (p + 1))),
         };
     }
-    Numeral::Malformed
+    Numeral::NoNumber
 }
 
 // The factor in s from start up to end.
@@ -79,5 +79,5 @@ pub fn read_factor(s: &[u8], start: usize, end: usize) -> Numeral
     if few {
         return behind(value(t, 0, p) as u32, t, p);
     }
-    Numeral::Malformed
+    Numeral::NoNumber
 }

@@ -13,16 +13,16 @@ use lib.Seq.{drop-cons}
 use lib.Dec.{eqb, leb, ltb}
 use Rattle.text.specs.Control.{isCharacter}
 use Rattle.ground.specs.Ranges.{inRange}
-use Rattle.ground.proofs.Cases.{never, below, ranged}
+use Rattle.ground.proofs.Cases.{never, below, in-range}
 use Rattle.settings.specs.Mnemonics.{isErr}
 use Rattle.settings.specs.declared.model.Model.{Model}
 use Rattle.settings.specs.declared.mnemonic.Mnemonic.{Mnemonic}
 use Rattle.ports.specs.Line.{blank, withLine, grown, isEmpty}
-use Rattle.ports.specs.Hearing.{kindOf, answered, asked, quiet, byKind, heard}
+use Rattle.ports.specs.Hearing.{kindOf, bySelection, asked, quiet, byKind, heard}
 use Rattle.ports.specs.Walk.{again, repeats, settled, isTyped, typing, typedOne, typedAll}
 use Rattle.ports.specs.declared.Port.{Port}
 use Rattle.ports.specs.declared.Selection.{Selection}
-use Rattle.ports.specs.declared.Selection.the-variants.{Nothing, Of as Chosen}
+use Rattle.ports.specs.declared.Selection.the-variants.{Nothing, Chosen}
 use Rattle.ports.specs.declared.Event.the-variants.{Reply}
 use Rattle.ports.specs.declared.typing.Typed.{Typed}
 use Rattle.ports.specs.declared.hearing.ByteKind.the-variants.{Dropped, Character, Spoiling}
@@ -67,7 +67,7 @@ typed-range b = by (eqb b 32) refl
 -- a typed byte is none of those below the space
 module _ (b : ℕ) (e : isTyped b ≡ true) where
   range : (32 ≤ b) × (b ≤ 126)
-  range = ranged 32 126 b (typed-range b ∙ e)
+  range = in-range 32 126 b (typed-range b ∙ e)
 
   other : (n : ℕ) → n < 32 → eqb b n ≡ false
   other n h = ne-eqb b n (λ q. omega (arith, range .0))
@@ -95,7 +95,7 @@ pub enq-heard : (model : Model) (p q next : Port) (m : Mnemonic) (b : ℕ) → b
 unfolding heard kindOf byKind
 enq-heard model p q next m b enq settles event port = rw (enq, and-false (p .ended), ← settles) (λ i. record { port = port i; event = event i })
 
-answered-stays : (p : Port) (s : Selection) → again s ≡ true → p ≡ answered p s .port
+answered-stays : (p : Port) (s : Selection) → again s ≡ true → p ≡ bySelection p s .port
 answered-stays p Nothing e = never (cc)
 answered-stays p (Chosen m) e = rw (not-true (isErr m) e)
 

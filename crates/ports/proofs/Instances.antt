@@ -1,4 +1,4 @@
--- What the definitions give where docs/PROMISES.md names a wrong answer.
+-- What the definitions give where docs/promises/ names a wrong answer.
 use Prim.Native.Nat.{ℕ, _+_, _≤_}
 use mathlib.Core.Path.{_≡_, refl}
 use mathlib.Core.List.{List, [], _∷_, map}
@@ -12,7 +12,7 @@ use Rattle.ground.specs.Members.{every}
 use Rattle.settings.specs.declared.model.Model.{Model}
 use Rattle.settings.specs.declared.mnemonic.Query.the-variants.{Sps, Err}
 use Rattle.settings.specs.declared.mnemonic.Mnemonic.{Mnemonic}
-use Rattle.settings.specs.declared.mnemonic.Mnemonic.the-variants.{Query as Asked, Com}
+use Rattle.settings.specs.declared.mnemonic.Mnemonic.the-variants.{OfQuery, Com}
 use Rattle.settings.specs.declared.rows.Row.{Row}
 use Rattle.lines.specs.Judging.{judged}
 use Rattle.lines.specs.declared.verdict.Verdict.the-variants.{Writes}
@@ -23,7 +23,7 @@ use Rattle.ports.specs.Walk.{again, settled, isTyped, typedOne, typedAll
 use Rattle.ports.specs.Limits.{lineWithin, isInterval, portWithin}
 use Rattle.ground.specs.Ranges.{inRange}
 use Rattle.ports.specs.declared.Port.{Port}
-use Rattle.ports.specs.declared.Selection.the-variants.{Nothing, Of as Chosen}
+use Rattle.ports.specs.declared.Selection.the-variants.{Nothing, Chosen}
 
 -- ---- a fresh port
 
@@ -59,7 +59,7 @@ unfolding asked
 word-answers p e = rw e
 
 -- nothing selected, SPS, and ERR, whose word is gone once it is sent
-pub selection-repeats : map again (Nothing ∷ Chosen (Asked Sps) ∷ Chosen (Asked Err) ∷ []) ≡ false ∷ true ∷ false ∷ []
+pub selection-repeats : map again (Nothing ∷ Chosen (OfQuery Sps) ∷ Chosen (OfQuery Err) ∷ []) ≡ false ∷ true ∷ false ∷ []
 selection-repeats = refl
 
 pub bad-stays : (p : Port) (b : ℕ) → p .bad ≡ true → grown p b ≡ p

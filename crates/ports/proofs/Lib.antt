@@ -1,4 +1,4 @@
 pub mod Gathering
-pub mod Kept
+pub mod PortLimits
 pub mod Characters
 pub mod Instances

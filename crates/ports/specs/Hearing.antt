@@ -8,7 +8,7 @@ use Rattle.settings.specs.Mnemonics.{isErr}
 use Rattle.settings.specs.declared.model.Model.{Model}
 use Rattle.settings.specs.declared.mnemonic.Query.the-variants.{Err}
 use Rattle.settings.specs.declared.mnemonic.Mnemonic.{Mnemonic}
-use Rattle.settings.specs.declared.mnemonic.Mnemonic.the-variants.{Setting as Of, Cf, Query as Asked, Com, Sav}
+use Rattle.settings.specs.declared.mnemonic.Mnemonic.the-variants.{OfSetting, Cf, OfQuery, Com, Sav}
 use Rattle.lines.specs.Words.{noError, gathered}
 use Rattle.lines.specs.Judging.{judged}
 use Rattle.lines.specs.declared.word.Word.{Word}
@@ -19,7 +19,7 @@ use Rattle.ports.specs.Line.{blank, emptied, spoilt, grown, held, isEmpt
 use Rattle.ports.specs.Stream.{intervalOf, stopped, begun}
 use Rattle.ports.specs.declared.Port.{Port}
 use Rattle.ports.specs.declared.Selection.{Selection}
-use Rattle.ports.specs.declared.Selection.the-variants.{Nothing, Of as Chosen}
+use Rattle.ports.specs.declared.Selection.the-variants.{Nothing, Chosen}
 use Rattle.ports.specs.declared.Event.the-variants.{Silent, Line, Reply}
 use Rattle.ports.specs.declared.Heard.{Heard}
 use Rattle.ports.specs.declared.hearing.ByteKind.{ByteKind}
@@ -79,9 +79,9 @@ withChoice p selection error = record {
 
 -- "selects its mnemonic; after COM and SAV the selection is none"
 abbrev pub selected : Mnemonic → Selection
-selected (Of x) = Chosen (Of x)
+selected (OfSetting x) = Chosen (OfSetting x)
 selected (Cf k) = Chosen (Cf k)
-selected (Asked q) = Chosen (Asked q)
+selected (OfQuery q) = Chosen (OfQuery q)
 selected Com = Nothing
 selected Sav = Nothing
 
@@ -100,8 +100,8 @@ concluded p (Writes m r) = begun (accepted p m) m r
 concluded p (Refused x) = refused p x
 
 -- "CR ends a line."
-abbrev pub lineEnd : Model → Port → Heard
-lineEnd model p = let v = judged model (held p) in record { port = concluded (withMark (emptied p) true) v; event = Line v }
+abbrev pub crHeard : Model → Port → Heard
+crHeard model p = let v = judged model (held p) in record { port = concluded (withMark (emptied p) true) v; event = Line v }
 
 -- "ETX empties the line, a bad one too, clears the selection"; an ENQ "drops line and selection"
 abbrev pub dropped : Port → Word → Port
@@ -109,20 +109,20 @@ dropped p error = withChoice (emptied p) Nothing error
 
 -- "it drops line and selection and sends the error word"; "then it is 0000"
 abbrev pub worded : Port → Heard
-worded p = record { port = dropped p noError; event = Reply (Asked Err) (p .error) }
+worded p = record { port = dropped p noError; event = Reply (OfQuery Err) (p .error) }
 
 -- "sends the selected mnemonic's reply, as often as asked"; the error word is sent "through ERR" too
 abbrev pub replied : Port → Mnemonic → Heard
 replied p m = record { port = cond (isErr m) (withChoice p (Chosen m) noError) p; event = Reply m (p .error) }
 
 -- with a selection, or with none
-abbrev pub answered : Port → Selection → Heard
-answered p Nothing = worded p
-answered p (Chosen m) = replied p m
+abbrev pub bySelection : Port → Selection → Heard
+bySelection p Nothing = worded p
+bySelection p (Chosen m) = replied p m
 
 -- "ENQ on an empty line"; "With no selection, or on a line that is not empty (bad ones too)"
 unfoldable pub asked : Port → Heard
-asked p = cond (isEmpty p) (answered p (p .selection)) (worded p)
+asked p = cond (isEmpty p) (bySelection p (p .selection)) (worded p)
 
 -- nothing is sent
 abbrev pub quiet : Port → Heard
@@ -130,7 +130,7 @@ quiet p = record { port = p; event = Silent }
 
 -- "Any other LF, and every space, is dropped."; ETX "sends nothing; the error word stays"
 unfoldable pub byKind : Model → ByteKind → Port → ℕ → Heard
-byKind model Cr p b = lineEnd model p
+byKind model Cr p b = crHeard model p
 byKind model Dropped p b = quiet p
 byKind model Etx p b = quiet (dropped p (p .error))
 byKind model Enq p b = asked p

@@ -12,7 +12,7 @@ use Rattle.settings.specs.declared.model.Model.{Model}
 use Rattle.ports.specs.Stream.{intervalOf}
 use Rattle.ports.specs.declared.Port.{Port}
 use Rattle.ports.specs.declared.Selection.{Selection}
-use Rattle.ports.specs.declared.Selection.the-variants.{Nothing, Of as Chosen}
+use Rattle.ports.specs.declared.Selection.the-variants.{Nothing, Chosen}
 
 -- "the line at most 80 with unused places zero, empty when bad"; a used place holds a character
 unfoldable pub lineWithin : Port → Bool
@@ -38,5 +38,5 @@ unfoldable pub portWithin : Model → Port → Bool
 portWithin model p = lineWithin p && (streamWithin p && selectionWithin model (p .selection))
 
 -- the line has its eighty places, as the type of the port says
-pub record Eighty (p : Port) : Type 0 where
+pub record PortShaped (p : Port) : Type 0 where
   pub line : length (p .line) ≡ 80

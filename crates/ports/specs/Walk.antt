@@ -10,7 +10,7 @@ use Rattle.ports.specs.Stream.{stopped}
 use Rattle.ports.specs.Hearing.{withMark}
 use Rattle.ports.specs.declared.Port.{Port}
 use Rattle.ports.specs.declared.Selection.{Selection}
-use Rattle.ports.specs.declared.Selection.the-variants.{Nothing, Of as Chosen}
+use Rattle.ports.specs.declared.Selection.the-variants.{Nothing, Chosen}
 
 -- how many characters there are to be judged
 abbrev pub heldCount : Port → ℕ

@@ -1,6 +1,6 @@
 // One byte of the host: what it does to the port, and what it makes the box do.
 ghost use mathlib.Core.Path.{_≡_};
-ghost use Rattle.ports.specs.Hearing.{kindOf, freshPort, withMark, withChoice, selected, accepted, refused, concluded, lineEnd, dropped, replied, asked, quiet, byKind, heard};
+ghost use Rattle.ports.specs.Hearing.{kindOf, freshPort, withMark, withChoice, selected, accepted, refused, concluded, crHeard, dropped, replied, asked, quiet, byKind, heard};
 ghost use Rattle.ports.specs.Walk.{repeats, settled};
 ghost use Rattle.ports.specs.declared.Event.the-variants.{Reply};
 use crate::Event;
@@ -58,9 +58,9 @@ fn selects(m: Mnemonic) -> Selection
     ensures { λ r. ⌜ r ≡ selected m ⌝ }
 {
     match m {
-        Mnemonic::Setting(_) => Selection::Of(m),
-        Mnemonic::Cf(_) => Selection::Of(m),
-        Mnemonic::Query(_) => Selection::Of(m),
+        Mnemonic::OfSetting(_) => Selection::Chosen(m),
+        Mnemonic::Cf(_) => Selection::Chosen(m),
+        Mnemonic::OfQuery(_) => Selection::Chosen(m),
         Mnemonic::Com => Selection::Nothing,
         Mnemonic::Sav => Selection::Nothing,
     }
@@ -133,8 +133,8 @@ impl Port {
         }
     }
 
-    fn line_end(self, model: Model) -> Heard
-        ensures { λ r. ⌜ r ≡ lineEnd model self ⌝ }
+    fn cr_heard(self, model: Model) -> Heard
+        ensures { λ r. ⌜ r ≡ crHeard model self ⌝ }
     {
         let v = self.judged(model);
         let port = self.emptied().marked(true).concluded(v);
@@ -158,11 +158,11 @@ impl Port {
         let selection = self.selection;
         if self.is_empty() {
             match selection {
-                Selection::Nothing => Mnemonic::Query(Query::Err),
-                Selection::Of(m) => m,
+                Selection::Nothing => Mnemonic::OfQuery(Query::Err),
+                Selection::Chosen(m) => m,
             }
         } else {
-            Mnemonic::Query(Query::Err)
+            Mnemonic::OfQuery(Query::Err)
         }
     }
 
@@ -170,7 +170,7 @@ impl Port {
     fn replied(self, m: Mnemonic) -> Port
         ensures { λ r. ⌜ r ≡ replied self m .port ⌝ }
     {
-        let selection = Selection::Of(m);
+        let selection = Selection::Chosen(m);
         if m.is_err() {
             return self.with_choice(selection, Word::none());
         }
@@ -185,7 +185,7 @@ impl Port {
         if self.is_empty() {
             match selection {
                 Selection::Nothing => self.dropped(Word::none()),
-                Selection::Of(m) => self.replied(m),
+                Selection::Chosen(m) => self.replied(m),
             }
         } else {
             self.dropped(Word::none())
@@ -199,7 +199,7 @@ impl Port {
         let selection = self.selection;
         match selection {
             Selection::Nothing => false,
-            Selection::Of(m) => self.is_empty() & !m.is_err(),
+            Selection::Chosen(m) => self.is_empty() & !m.is_err(),
         }
     }
 
@@ -227,7 +227,7 @@ impl Port {
     {
         let error = self.error;
         match kind {
-            ByteKind::Cr => self.line_end(model),
+            ByteKind::Cr => self.cr_heard(model),
             ByteKind::Dropped => self.quiet(),
             ByteKind::Etx => self.dropped(error).quiet(),
             ByteKind::Enq => self.asked(),

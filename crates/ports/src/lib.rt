@@ -12,7 +12,7 @@ pub mod typing;
 // The mnemonic that an ENQ is answered with.
 pub enum Selection {
     Nothing,
-    Of(Mnemonic),
+    Chosen(Mnemonic),
 }
 
 pub struct Port {

@@ -41,9 +41,9 @@ impl Port {
         ensures { λ x. ⌜ x ≡ begun self m r ⌝ }
     {
         match m {
-            Mnemonic::Setting(_) => self,
+            Mnemonic::OfSetting(_) => self,
             Mnemonic::Cf(_) => self,
-            Mnemonic::Query(_) => self,
+            Mnemonic::OfQuery(_) => self,
             Mnemonic::Com => {
                 let a = r.first;
                 self.with_stream(interval_of(a.mantissa), 0)

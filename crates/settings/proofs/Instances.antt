@@ -1,4 +1,4 @@
--- What the definitions give where docs/PROMISES.md names a wrong answer.
+-- What the definitions give where docs/promises/ names a wrong answer.
 use Prim.Native.Nat.{ℕ}
 use Prim.Native.String.{String}
 use mathlib.Core.Path.{_≡_, refl}
@@ -13,7 +13,7 @@ use Rattle.ground.specs.Members.{every}
 use Rattle.settings.specs.Models.{modelOf, channels, names, powerOnMode, startsOn, follows, agrees, defaults}
 use Rattle.settings.specs.Mnemonics.{sheet, sheetAt, settingName, known, same, found, recognised, channelOf, isErr}
 use Rattle.settings.specs.Kinds.{storedKinds}
-use Rattle.settings.specs.Rows.{pairRow, row, listed, number, withFilters}
+use Rattle.settings.specs.Rows.{pairRow, row, listed, firstNumber, withFilters}
 use Rattle.settings.specs.Limits.{within}
 use Rattle.settings.specs.declared.model.Model.{Model}
 use Rattle.settings.specs.declared.model.Model.the-variants.{Tpg361, Tpg362}
@@ -22,7 +22,7 @@ use Rattle.settings.specs.declared.mnemonic.Setting.{Setting}
 use Rattle.settings.specs.declared.mnemonic.Setting.the-variants.{Sp}
 use Rattle.settings.specs.declared.mnemonic.Query.the-variants.{Pr, Ayt, Err}
 use Rattle.settings.specs.declared.mnemonic.Named.the-variants.{Known, Unknown}
-use Rattle.settings.specs.declared.mnemonic.Mnemonic.the-variants.{Cf, Query as Asked, Sav}
+use Rattle.settings.specs.declared.mnemonic.Mnemonic.the-variants.{Cf, OfQuery, Sav}
 
 -- ---- models
 
@@ -61,21 +61,21 @@ module _ (model : Model) where
 pub sheet-names : (model : Model) → entries (λ (i : ℕ). settingName (sheetAt model i)) 18 0 ≡ map ascii ("UNI" ∷ "FIL" ∷ "CAL" ∷ "DCD" ∷ "SP1" ∷ "SP2" ∷ "SP3" ∷ "SP4" ∷ "ERA" ∷ "EVA" ∷ "FMT" ∷ "LNG" ∷ "NAD" ∷ "PRE" ∷ "PRO" ∷ "PUC" ∷ "DCS" ∷ "UNI" ∷ [])
 sheet-names model = refl
 
-pub words : (model : Model) → map (λ (w : String). recognised model (ascii w)) ("PR1" ∷ "PR2" ∷ "ERR" ∷ "SAV" ∷ "SAW" ∷ []) ≡ Known (Asked (Pr 0)) ∷ Known (Asked (Pr 1)) ∷ Known (Asked Err) ∷ Known Sav ∷ Unknown ∷ []
+pub words : (model : Model) → map (λ (w : String). recognised model (ascii w)) ("PR1" ∷ "PR2" ∷ "ERR" ∷ "SAV" ∷ "SAW" ∷ []) ≡ Known (OfQuery (Pr 0)) ∷ Known (OfQuery (Pr 1)) ∷ Known (OfQuery Err) ∷ Known Sav ∷ Unknown ∷ []
 unfolding known same found recognised
 words model = refl
 
-pub err-alone : map isErr (Asked Err ∷ Asked Ayt ∷ []) ≡ true ∷ false ∷ []
+pub err-alone : map isErr (OfQuery Err ∷ OfQuery Ayt ∷ []) ≡ true ∷ false ∷ []
 err-alone = refl
 
 -- PR2 and CF2, the channels counted from 0
-pub second-channel : map channelOf (Asked (Pr 1) ∷ Cf 1 ∷ []) ≡ 1 ∷ 1 ∷ []
+pub second-channel : map channelOf (OfQuery (Pr 1) ∷ Cf 1 ∷ []) ≡ 1 ∷ 1 ∷ []
 second-channel = refl
 
 -- ---- settings
 
 -- the first cell of each line of the sheet
-pub default-numbers : (model : Model) → map (λ (x : Setting). number (row (defaults model) x)) (sheet model) ≡ 4 ∷ 2 ∷ 1000 ∷ 0 ∷ 0 ∷ 0 ∷ 0 ∷ 0 ∷ 0 ∷ 0 ∷ 0 ∷ 0 ∷ 1 ∷ 0 ∷ 0 ∷ 0 ∷ 0 ∷ []
+pub default-numbers : (model : Model) → map (λ (x : Setting). firstNumber (row (defaults model) x)) (sheet model) ≡ 4 ∷ 2 ∷ 1000 ∷ 0 ∷ 0 ∷ 0 ∷ 0 ∷ 0 ∷ 0 ∷ 0 ∷ 0 ∷ 0 ∷ 1 ∷ 0 ∷ 0 ∷ 0 ∷ 0 ∷ []
 default-numbers model = refl
 
 -- lower and upper of each switching function

@@ -1,8 +1,8 @@
 pub mod Tabled
 pub mod Names
-pub mod Answering
+pub mod Answerable
 pub mod Places
 pub mod Storing
 pub mod Sheets
-pub mod Keeping
+pub mod StoredLimits
 pub mod Instances

@@ -16,20 +16,20 @@ use Rattle.ground.specs.Members.{every}
 use Rattle.settings.specs.declared.model.Model.{Model}
 use Rattle.settings.specs.declared.mnemonic.Setting.the-variants.{Uni}
 use Rattle.settings.specs.declared.mnemonic.Mnemonic.{Mnemonic}
-use Rattle.settings.specs.declared.mnemonic.Mnemonic.the-variants.{Setting as Of}
+use Rattle.settings.specs.declared.mnemonic.Mnemonic.the-variants.{OfSetting}
 use Rattle.settings.specs.declared.mnemonic.Named.the-variants.{Known, Unknown}
 
 -- ---- places in the list of all that are known
 
-pub known-sheet : (model : Model) (i : ℕ) → i < 17 → Of (sheetAt model i) ≡ knownAt model i
+pub known-sheet : (model : Model) (i : ℕ) → i < 17 → OfSetting (sheetAt model i) ≡ knownAt model i
 unfolding known
-known-sheet model i h = sym (List·getD-append (map Of (sheet model)) others (Of Uni) i h ∙ List·getD-map Of (sheet model) i Uni)
+known-sheet model i h = sym (List·getD-append (map OfSetting (sheet model)) others (OfSetting Uni) i h ∙ List·getD-map OfSetting (sheet model) i Uni)
 
-pub known-others : (model : Model) (i : ℕ) → 17 ≤ i → getD others (i - 17) (Of Uni) ≡ knownAt model i
+pub known-others : (model : Model) (i : ℕ) → 17 ≤ i → getD others (i - 17) (OfSetting Uni) ≡ knownAt model i
 unfolding known
 known-others model i h =
     let q : 17 + (i - 17) ≡ i = omega (arith, h) in
-    sym (getD-append-add (map Of (sheet model)) others (i - 17) (Of Uni)) ∙ ap (λ (k : ℕ). getD (map Of (sheet model) ++ others) k (Of Uni)) q
+    sym (getD-append-add (map OfSetting (sheet model)) others (i - 17) (OfSetting Uni)) ∙ ap (λ (k : ℕ). getD (map OfSetting (sheet model) ++ others) k (OfSetting Uni)) q
 
 -- ---- three letters each
 
@@ -40,8 +40,8 @@ spelling : (model : Model) (i : ℕ) → i < 28
     → getD letters (i * 3) 0 ∷ getD letters (i * 3 + 1) 0 ∷ getD letters (i * 3 + 2) 0 ∷ [] ≡ name (knownAt model i)
 unfolding known
 spelling model i h =
-    tabled (λ i. getD letters (i * 3) 0 ∷ getD letters (i * 3 + 1) 0 ∷ getD letters (i * 3 + 2) 0 ∷ []) 28 (map name (known model)) refl i (name (Of Uni)) h
-    ∙ List·getD-map name (known model) i (Of Uni)
+    tabled (λ i. getD letters (i * 3) 0 ∷ getD letters (i * 3 + 1) 0 ∷ getD letters (i * 3 + 2) 0 ∷ []) 28 (map name (known model)) refl i (name (OfSetting Uni)) h
+    ∙ List·getD-map name (known model) i (OfSetting Uni)
 
 pub spelt : (model : Model) (i : ℕ) → i < 28 → (a b c : ℕ)
     → eqb (getD letters (i * 3) 0) a && (eqb (getD letters (i * 3 + 1) 0) b && eqb (getD letters (i * 3 + 2) 0) c) ≡ same (name (knownAt model i)) (a ∷ b ∷ c ∷ [])

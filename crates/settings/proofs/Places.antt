@@ -11,22 +11,22 @@ use lib.IntN.{ℤ, pos, negsuc}
 use Rattle.numbers.specs.Numbers.{between}
 use Rattle.numbers.specs.declared.threshold.Threshold.{Threshold}
 use Rattle.ground.proofs.Ranges.{upto-each}
-use Rattle.ground.proofs.Cases.{ranged, never}
+use Rattle.ground.proofs.Cases.{in-range, never}
 use Rattle.settings.specs.Rows.{plain, listed}
 use Rattle.settings.specs.Limits.{inside, sameCell, placeWithin, rowFits}
 use Rattle.settings.specs.declared.kinds.Limits.{Limits}
 use Rattle.settings.specs.declared.kinds.Kind.{Kind}
-use Rattle.settings.specs.declared.kinds.Kind.the-variants.{Threshold as Level}
+use Rattle.settings.specs.declared.kinds.Kind.the-variants.{OfThreshold}
 use Rattle.settings.specs.declared.rows.Row.{Row}
 
 -- ---- cells
 
 -- an exponent from e to e
 exponent-is : (e x : ℤ) → between e e x ≡ true → x ≡ e
-exponent-is (pos a) (pos b) h = let l = ranged a a b h in ap pos (omega arith)
+exponent-is (pos a) (pos b) h = let l = in-range a a b h in ap pos (omega arith)
 exponent-is (pos a) (negsuc b) h = never (cc)
 exponent-is (negsuc a) (pos b) h = never (cc)
-exponent-is (negsuc a) (negsuc b) h = let l = ranged b b a h in ap negsuc (omega arith)
+exponent-is (negsuc a) (negsuc b) h = let l = in-range b b a h in ap negsuc (omega arith)
 
 pub same-cell : (c d : Threshold) → sameCell c d ≡ true → c ≡ d
 same-cell c d h =
@@ -55,7 +55,7 @@ rows-same r q e =
 
 -- at place i the row fits its kind, or is as d where there is none
 abbrev pub placed : List Kind → Row → Row → ℕ → Bool
-placed ks r d i = placeWithin (ltb i (length ks)) (getD ks i Level) (cell r i) (cell d i)
+placed ks r d i = placeWithin (ltb i (length ks)) (getD ks i OfThreshold) (cell r i) (cell d i)
 
 module _ (ks : List Kind) (r d : Row) where
   pub row-places : rowFits ks r d ≡ true → (i : ℕ) → i < 3 → placed ks r d i ≡ true

@@ -15,17 +15,17 @@ use Rattle.ground.proofs.Cases.{true-or-false}
 use Rattle.settings.specs.Models.{defaults}
 use Rattle.settings.specs.Mnemonics.{sheet, sheetAt, others, known}
 use Rattle.settings.specs.Kinds.{whole, factor, perChannel, kinds, storedKinds, storedTable}
-use Rattle.settings.specs.Rows.{plain, row, listed, count, cells}
+use Rattle.settings.specs.Rows.{plain, row, listed, fieldCount, cells}
 use Rattle.ground.specs.Members.{every, Each}
-use Rattle.settings.specs.Limits.{placeWithin, rowWithin, within, Shaped}
+use Rattle.settings.specs.Limits.{placeWithin, rowWithin, within, SettingsShaped}
 use Rattle.settings.specs.declared.model.Model.{Model}
 use Rattle.settings.specs.declared.model.Model.the-variants.{Tpg361, Tpg362}
 use Rattle.settings.specs.declared.mnemonic.Setting.{Setting}
 use Rattle.settings.specs.declared.mnemonic.Setting.the-variants.{Uni, Fil, Cal, Dcd, Sp, Stored}
 use Rattle.settings.specs.declared.mnemonic.Mnemonic.{Mnemonic}
-use Rattle.settings.specs.declared.mnemonic.Mnemonic.the-variants.{Setting as Of}
+use Rattle.settings.specs.declared.mnemonic.Mnemonic.the-variants.{OfSetting}
 use Rattle.settings.specs.declared.kinds.Kind.{Kind}
-use Rattle.settings.specs.declared.kinds.Kind.the-variants.{Threshold as Level}
+use Rattle.settings.specs.declared.kinds.Kind.the-variants.{OfThreshold}
 use Rattle.settings.specs.declared.rows.Row.{Row}
 use Rattle.settings.specs.declared.Settings.{Settings}
 use Rattle.ground.proofs.Members.{each-map, each-both, each-all, each-take, each-drop, each-at, every-each, each-every}
@@ -83,26 +83,26 @@ abbrev pub Distinct : List Setting → Type 0
 Distinct [] = Unit {0}
 Distinct (x ∷ xs) = Each (λ y. x ≢ y) xs × Distinct xs
 
-unlike : Setting → Setting → Bool
-unlike x y = not (eqb (line x) (line y))
+apart : Setting → Setting → Bool
+apart x y = not (eqb (line x) (line y))
 
 unfoldable differing : List Setting → Bool
 differing [] = true
-differing (x ∷ xs) = every (unlike x) xs && differing xs
+differing (x ∷ xs) = every (apart x) xs && differing xs
 
-unlike-apart : (x y : Setting) → unlike x y ≡ true → x ≢ y
-unfolding unlike
+unlike-apart : (x y : Setting) → apart x y ≡ true → x ≢ y
+unfolding apart
 unlike-apart x y e q = eqb-false (line x) (line y) (not-true (eqb (line x) (line y)) e) (ap line q)
 
 all-apart : (xs : List Setting) → differing xs ≡ true → Distinct xs
 unfolding differing
 all-apart [] e = tt
 all-apart (x ∷ xs) e =
-    let b = and-eq-true-iff (every (unlike x) xs) (differing xs) .0 e in
-    (each-map (λ y. unlike x y ≡ true) (λ y. x ≢ y) (unlike-apart x) xs (every-each (unlike x) xs (b .0)), all-apart xs (b .1))
+    let b = and-eq-true-iff (every (apart x) xs) (differing xs) .0 e in
+    (each-map (λ y. apart x y ≡ true) (λ y. x ≢ y) (unlike-apart x) xs (every-each (apart x) xs (b .0)), all-apart xs (b .1))
 
 pub sheet-distinct : (model : Model) → Distinct (sheet model)
-unfolding differing every unlike
+unfolding differing every apart
 sheet-distinct model = all-apart (sheet model) refl
 
 -- those behind a cut are apart from those before it
@@ -133,7 +133,7 @@ pub channel-kinds : (P : List Kind → Type 0) (k : Kind) → P (k ∷ []) → P
 channel-kinds P k one two Tpg361 = one
 channel-kinds P k one two Tpg362 = two
 
-pub few : (model : Model) (x : Setting) → count model x ≤ 3
+pub few : (model : Model) (x : Setting) → fieldCount model x ≤ 3
 unfolding storedKinds
 few model Uni = omega arith
 few model Fil = channel-kinds (λ ks. length ks ≤ 3) (whole 0 3) (omega arith) (omega arith) model
@@ -168,16 +168,16 @@ module _ (model : Model) (a b : Settings) (wa : within model a ≡ true) (wb : w
   -- where the model has no field both have the default, so the cells that it has decide a whole row
   pub cells-row : (x : Setting) → Holding x → cells model a x ≡ cells model b x → row a x ≡ row b x
   cells-row x h e =
-      let ks = kinds model (Of x) in
+      let ks = kinds model (OfSetting x) in
       let d = row (defaults model) x in
       rows-same (row a x) (row b x) (λ i l.
-      same-placed (ltb i (length ks)) (getD ks i Level) (cell (row a x) i) (cell (row b x) i) (cell d i)
+      same-placed (ltb i (length ks)) (getD ks i OfThreshold) (cell (row a x) i) (cell (row b x) i) (cell d i)
       (row-places ks (row a x) d (within-rows model a wa x h) i l)
       (row-places ks (row b x) d (within-rows model b wb x h) i l)
-      (λ t. taken (count model x) i (row a x) (row b x) e (ltb-true i (count model x) t)))
+      (λ t. taken (fieldCount model x) i (row a x) (row b x) e (ltb-true i (fieldCount model x) t)))
 
   -- law (d) over a model's sheet: settings are equal exactly when their cells agree
-  pub sheet-decides : Shaped a → Shaped b → Each (λ x. cells model a x ≡ cells model b x) (sheet model) ↔ (a ≡ b)
+  pub sheet-decides : SettingsShaped a → SettingsShaped b → Each (λ x. cells model a x ≡ cells model b x) (sheet model) ↔ (a ≡ b)
   sheet-decides sa sb = (
     (λ e. rows-decide a b sa sb (λ x h. cells-row x h (on-sheet (λ y. cells model a y ≡ cells model b y) model e x h))),
     (λ e. each-all _ (λ x. ap (λ (s : Settings). cells model s x) e) (sheet model)),
@@ -186,16 +186,16 @@ module _ (model : Model) (a b : Settings) (wa : within model a ≡ true) (wb : w
 -- ---- all that are known: those of the sheet, and the others
 
 module _ (P : Mnemonic → Type 0) where
-  each-parts : (xs : List Setting) (ms : List Mnemonic) → Each P (map Of xs ++ ms) → Each (λ x. P (Of x)) xs × Each P ms
+  each-parts : (xs : List Setting) (ms : List Mnemonic) → Each P (map OfSetting xs ++ ms) → Each (λ x. P (OfSetting x)) xs × Each P ms
   each-parts [] ms e = (tt, e)
   each-parts (x ∷ xs) ms e = let p = each-parts xs ms (e .1) in ((e .0, p .0), p .1)
 
-  each-whole : (xs : List Setting) (ms : List Mnemonic) → Each (λ x. P (Of x)) xs → Each P ms → Each P (map Of xs ++ ms)
-  each-whole [] ms e f = f
-  each-whole (x ∷ xs) ms e f = (e .0, each-whole xs ms (e .1) f)
+  each-known : (xs : List Setting) (ms : List Mnemonic) → Each (λ x. P (OfSetting x)) xs → Each P ms → Each P (map OfSetting xs ++ ms)
+  each-known [] ms e f = f
+  each-known (x ∷ xs) ms e f = (e .0, each-known xs ms (e .1) f)
 
   module _ (model : Model) where
-    pub sheet-each : Each P (known model) → Each (λ x. P (Of x)) (sheet model)
+    pub sheet-each : Each P (known model) → Each (λ x. P (OfSetting x)) (sheet model)
     unfolding known
     sheet-each e = each-parts (sheet model) others e .0
 
@@ -203,6 +203,6 @@ module _ (P : Mnemonic → Type 0) where
     unfolding known
     others-each e = each-parts (sheet model) others e .1
 
-    pub known-each : Each (λ x. P (Of x)) (sheet model) → Each P others → Each P (known model)
+    pub known-each : Each (λ x. P (OfSetting x)) (sheet model) → Each P others → Each P (known model)
     unfolding known
-    known-each = each-whole (sheet model) others
+    known-each = each-known (sheet model) others

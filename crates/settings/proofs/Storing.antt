@@ -9,13 +9,13 @@ use lib.ListN.{length, getD, set, take, length-set}
 use lib.Dec.{ltb}
 use lib.Seq.{getD-set-same, getD-set-other, ext-getD}
 use Rattle.numbers.specs.declared.threshold.Threshold.{Threshold}
-use Rattle.settings.specs.Limits.{Shaped}
-use Rattle.settings.specs.Rows.{plain, pairRow, noSwitching, cellsOf, row, listed, count, number, switchingOf, withRow, withFactors, mixed, stored}
+use Rattle.settings.specs.Limits.{SettingsShaped}
+use Rattle.settings.specs.Rows.{plain, pairRow, noSwitching, cellsOf, row, listed, fieldCount, firstNumber, switchingOf, withRow, withFactors, mixed, stored}
 use Rattle.settings.specs.declared.model.Model.{Model}
 use Rattle.settings.specs.declared.mnemonic.Setting.{Setting}
 use Rattle.settings.specs.declared.mnemonic.Setting.the-variants.{Uni, Fil, Cal, Dcd, Sp, Stored}
 use Rattle.settings.specs.declared.mnemonic.Mnemonic.{Mnemonic}
-use Rattle.settings.specs.declared.mnemonic.Mnemonic.the-variants.{Setting as Of, Cf, Query as Asked, Com, Sav}
+use Rattle.settings.specs.declared.mnemonic.Mnemonic.the-variants.{OfSetting, Cf, OfQuery, Com, Sav}
 use Rattle.settings.specs.declared.Settings.{Settings}
 use Rattle.settings.specs.declared.rows.Row.{Row}
 
@@ -32,20 +32,20 @@ pub data Holding : Setting → Type 0 where
 
 -- the row that is read back where r was written
 abbrev pub canon : Setting → Row → Row
-canon Uni r = pairRow (number r) 0
-canon Fil r = pairRow (number r) (r .second .mantissa)
-canon Cal r = pairRow (number r) (r .second .mantissa)
-canon Dcd r = pairRow (number r) (r .second .mantissa)
+canon Uni r = pairRow (firstNumber r) 0
+canon Fil r = pairRow (firstNumber r) (r .second .mantissa)
+canon Cal r = pairRow (firstNumber r) (r .second .mantissa)
+canon Dcd r = pairRow (firstNumber r) (r .second .mantissa)
 canon (Sp k) r = cellsOf (switchingOf r)
-canon (Stored k) r = pairRow (number r) 0
+canon (Stored k) r = pairRow (firstNumber r) 0
 
-pub row-back : {b : Settings} (r : Row) → Shaped b → {x : Setting} → Holding x → row (withRow b x r) x ≡ canon x r
+pub row-back : {b : Settings} (r : Row) → SettingsShaped b → {x : Setting} → Holding x → row (withRow b x r) x ≡ canon x r
 row-back r sh uni = refl
 row-back r sh fil = refl
 row-back r sh cal = refl
 row-back r sh dcd = refl
 row-back {b} r sh (sp k h) = ap cellsOf (getD-set-same (b .switching) k (switchingOf r) noSwitching (omega (arith, sh .switching)))
-row-back {b} r sh (kept k h) = ap (λ (n : ℕ). pairRow n 0) (getD-set-same (b .stored) k (number r) 0 (omega (arith, sh .stored)))
+row-back {b} r sh (kept k h) = ap (λ (n : ℕ). pairRow n 0) (getD-set-same (b .stored) k (firstNumber r) 0 (omega (arith, sh .stored)))
 
 pub row-canon : (s : Settings) (x : Setting) → canon x (row s x) ≡ row s x
 row-canon s Uni = refl
@@ -145,9 +145,9 @@ module _ (b : Settings) (r : Row) where
   others-stay (kept j g) cal d = refl
   others-stay (kept j g) dcd d = refl
   others-stay (kept j g) (sp k h) d = refl
-  others-stay (kept j g) (kept k h) d = ap (λ (n : ℕ). pairRow n 0) (getD-set-other (b .stored) j k (number r) 0 (λ e. d (ap Stored e)))
+  others-stay (kept j g) (kept k h) d = ap (λ (n : ℕ). pairRow n 0) (getD-set-other (b .stored) j k (firstNumber r) 0 (λ e. d (ap Stored e)))
 
-  row-shaped : (x : Setting) → Shaped b → Shaped (withRow b x r)
+  row-shaped : (x : Setting) → SettingsShaped b → SettingsShaped (withRow b x r)
   row-shaped Uni sh = record { filters = sh .filters; factors = sh .factors; resolutions = sh .resolutions; switching = sh .switching; stored = sh .stored }
   row-shaped Fil sh = record { filters = refl; factors = sh .factors; resolutions = sh .resolutions; switching = sh .switching; stored = sh .stored }
   row-shaped Cal sh = record { filters = sh .filters; factors = refl; resolutions = sh .resolutions; switching = sh .switching; stored = sh .stored }
@@ -159,33 +159,33 @@ module _ (b : Settings) (r : Row) where
 
 module _ (model : Model) (b : Settings) (r : Row) where
   -- law (c): the cells that the model has are the line's, its other cells stay
-  pub stored-row : Shaped b → {x : Setting} → Holding x → canon x r ≡ r → row (stored model b (Of x) r) x ≡ mixed (count model x) r (row b x)
-  stored-row sh {x} h e = row-back (mixed (count model x) r (row b x)) sh h ∙ mixed-canon (count model x) r (row b x) x e (row-canon b x)
+  pub stored-row : SettingsShaped b → {x : Setting} → Holding x → canon x r ≡ r → row (stored model b (OfSetting x) r) x ≡ mixed (fieldCount model x) r (row b x)
+  stored-row sh {x} h e = row-back (mixed (fieldCount model x) r (row b x)) sh h ∙ mixed-canon (fieldCount model x) r (row b x) x e (row-canon b x)
 
   -- and so do the cells of the other settings
-  pub stored-others : {x y : Setting} → Holding x → Holding y → y ≢ x → row (stored model b (Of x) r) y ≡ row b y
-  stored-others {x} = others-stay b (mixed (count model x) r (row b x))
+  pub stored-others : {x y : Setting} → Holding x → Holding y → y ≢ x → row (stored model b (OfSetting x) r) y ≡ row b y
+  stored-others {x} = others-stay b (mixed (fieldCount model x) r (row b x))
 
-  pub stored-shaped : (m : Mnemonic) → Shaped b → Shaped (stored model b m r)
-  stored-shaped (Of x) sh = row-shaped b (mixed (count model x) r (row b x)) x sh
+  pub stored-shaped : (m : Mnemonic) → SettingsShaped b → SettingsShaped (stored model b m r)
+  stored-shaped (OfSetting x) sh = row-shaped b (mixed (fieldCount model x) r (row b x)) x sh
   stored-shaped (Cf k) sh =
       record { filters = sh .filters; factors = simp length-set (sh .factors); resolutions = sh .resolutions; switching = sh .switching; stored = sh .stored }
-  stored-shaped (Asked q) sh = sh
+  stored-shaped (OfQuery q) sh = sh
   stored-shaped Com sh = sh
   stored-shaped Sav sh = sh
 
   -- a channel's factor is CAL's cell of that channel
-  pub factor-row : Shaped b → (k : ℕ) → k < 2 → listed (row (stored model b (Cf k) r) Cal) ≡ set (listed (row b Cal)) k (plain (number r))
+  pub factor-row : SettingsShaped b → (k : ℕ) → k < 2 → listed (row (stored model b (Cf k) r) Cal) ≡ set (listed (row b Cal)) k (plain (firstNumber r))
   factor-row sh zero h =
       let s : 0 < length (b .factors) = omega (arith, sh .factors) in
-      rw (getD-set-same (b .factors) 0 (number r) 0 s, getD-set-other (b .factors) 0 1 (number r) 0 (λ e. omega arith))
+      rw (getD-set-same (b .factors) 0 (firstNumber r) 0 s, getD-set-other (b .factors) 0 1 (firstNumber r) 0 (λ e. omega arith))
   factor-row sh (suc zero) h =
       let s : 1 < length (b .factors) = omega (arith, sh .factors) in
-      rw (getD-set-same (b .factors) 1 (number r) 0 s, getD-set-other (b .factors) 1 0 (number r) 0 (λ e. omega arith))
+      rw (getD-set-same (b .factors) 1 (firstNumber r) 0 s, getD-set-other (b .factors) 1 0 (firstNumber r) 0 (λ e. omega arith))
   factor-row sh (suc (suc k)) h = absurd (omega arith)
 
   pub factor-others : (k : ℕ) {y : Setting} → Holding y → y ≢ Cal → row (stored model b (Cf k) r) y ≡ row b y
-  factor-others k = others-factors b (set (b .factors) k (number r))
+  factor-others k = others-factors b (set (b .factors) k (firstNumber r))
 
 -- ---- law (d)
 
@@ -193,20 +193,20 @@ pair-same : (xs ys : List ℕ) → length xs ≡ 2 → length ys ≡ 2 → pairR
 pair-same xs ys h k e = ext-getD 0 xs ys (h ∙ sym k) each
   where
     each : (i : ℕ) → i < length xs → getD xs i 0 ≡ getD ys i 0
-    each zero l = ap number e
+    each zero l = ap firstNumber e
     each (suc zero) l = ap (λ (r : Row). r .second .mantissa) e
     each (suc (suc i)) l = absurd (omega arith)
 
 -- settings whose rows agree are equal
-module _ (a b : Settings) (sa : Shaped a) (sb : Shaped b) (agree : (x : Setting) → Holding x → row a x ≡ row b x) where
+module _ (a b : Settings) (sa : SettingsShaped a) (sb : SettingsShaped b) (agree : (x : Setting) → Holding x → row a x ≡ row b x) where
   pub rows-decide : a ≡ b
   rows-decide =
-      let u : a .unit ≡ b .unit = ap number (agree Uni uni) in
+      let u : a .unit ≡ b .unit = ap firstNumber (agree Uni uni) in
       let fs : a .filters ≡ b .filters = pair-same _ _ (sa .filters) (sb .filters) (agree Fil fil) in
       let cs : a .factors ≡ b .factors = pair-same _ _ (sa .factors) (sb .factors) (agree Cal cal) in
       let ds : a .resolutions ≡ b .resolutions = pair-same _ _ (sa .resolutions) (sb .resolutions) (agree Dcd dcd) in
       let ws : a .switching ≡ b .switching =
       ext-getD noSwitching _ _ (sa .switching ∙ sym (sb .switching)) (λ k h. ap switchingOf (agree (Sp k) (sp k (omega (arith, sa .switching))))) in
       let ks : a .stored ≡ b .stored =
-      ext-getD 0 _ _ (sa .stored ∙ sym (sb .stored)) (λ k h. ap number (agree (Stored k) (kept k (omega (arith, sa .stored))))) in
+      ext-getD 0 _ _ (sa .stored ∙ sym (sb .stored)) (λ k h. ap firstNumber (agree (Stored k) (kept k (omega (arith, sa .stored))))) in
       λ i. record { unit = u i; filters = fs i; factors = cs i; resolutions = ds i; switching = ws i; stored = ks i }

@@ -16,7 +16,7 @@ use Rattle.settings.specs.declared.model.Model.{Model}
 use Rattle.settings.specs.declared.mnemonic.Setting.the-variants.{Uni, Stored}
 use Rattle.settings.specs.declared.Settings.{Settings}
 use Rattle.settings.specs.declared.kinds.Kind.{Kind}
-use Rattle.settings.specs.declared.kinds.Kind.the-variants.{Threshold}
+use Rattle.settings.specs.declared.kinds.Kind.the-variants.{OfThreshold}
 
 -- the limits behind ERA, as two rows of numbers
 abbrev leasts : List ℕ
@@ -34,8 +34,8 @@ pub stored-entry : (model : Model) (k : ℕ) → k < 9 → (k ≡ 0 → ⊥) →
 stored-entry model zero h n = absurd (n refl)
 stored-entry model (suc j) h n =
     let q : j ≡ suc j - 1 = omega arith in
-    stored-kind model (suc j) Threshold h
-    ∙ ap (λ (k : Kind). k ∷ []) (sym (tabled (λ j. whole (getD leasts j 0) (getD mosts j 0)) 8 (drop 1 (storedTable model)) refl j Threshold (omega arith)))
+    stored-kind model (suc j) OfThreshold h
+    ∙ ap (λ (k : Kind). k ∷ []) (sym (tabled (λ j. whole (getD leasts j 0) (getD mosts j 0)) 8 (drop 1 (storedTable model)) refl j OfThreshold (omega arith)))
     ∙ ap (λ (i : ℕ). whole (getD leasts i 0) (getD mosts i 0) ∷ []) q
 
 pub stored-past : (model : Model) (k : ℕ) → 9 ≤ k → storedKinds model k ≡ []

@@ -7,22 +7,22 @@ use Rattle.settings.specs.declared.model.Model.the-variants.{Tpg361, Tpg
 use Rattle.settings.specs.declared.mnemonic.Setting.{Setting}
 use Rattle.settings.specs.declared.mnemonic.Setting.the-variants.{Uni, Fil, Cal, Dcd, Sp, Stored}
 use Rattle.settings.specs.declared.mnemonic.Mnemonic.{Mnemonic}
-use Rattle.settings.specs.declared.mnemonic.Mnemonic.the-variants.{Setting as Of, Cf, Query as Asked, Com, Sav}
+use Rattle.settings.specs.declared.mnemonic.Mnemonic.the-variants.{OfSetting, Cf, OfQuery, Com, Sav}
 use Rattle.settings.specs.declared.kinds.Kind.{Kind}
-use Rattle.settings.specs.declared.kinds.Kind.the-variants.{Whole, Factor, Threshold}
+use Rattle.settings.specs.declared.kinds.Kind.the-variants.{OfWhole, OfFactor, OfThreshold}
 use Rattle.settings.specs.declared.kinds.Kinds.{Kinds}
 
 -- a whole number from low to high
 abbrev pub whole : ℕ → ℕ → Kind
-whole low high = Whole (record { least = low; most = high; reach = high })
+whole low high = OfWhole (record { least = low; most = high; reach = high })
 
 -- "0.100 to 10.000"
 abbrev pub factor : Kind
-factor = Factor (record { least = 100; most = 10000; reach = 10000 })
+factor = OfFactor (record { least = 100; most = 10000; reach = 10000 })
 
 -- "Assignment 3 and ERA 3 need channel 2."
 abbrev pub assignment : Model → Kind
-assignment Tpg361 = Whole (record { least = 0; most = 2; reach = 3 })
+assignment Tpg361 = OfWhole (record { least = 0; most = 2; reach = 3 })
 assignment Tpg362 = whole 0 3
 
 -- "per channel"
@@ -41,7 +41,7 @@ storedKinds model k = take 1 (drop k (storedTable model))
 
 -- "assignment .., lower, upper"
 abbrev pub switchingKinds : Model → List Kind
-switchingKinds model = assignment model ∷ Threshold ∷ Threshold ∷ []
+switchingKinds model = assignment model ∷ OfThreshold ∷ OfThreshold ∷ []
 
 -- the rows of the table
 abbrev pub settingKinds : Model → Setting → List Kind
@@ -54,12 +54,12 @@ settingKinds model (Stored k) = storedKinds model k
 
 -- "CFx takes one factor"; "SPS, PR1, PR2, PRX, TID, AYT and ERR take no field"; "COM (0 to 2) and SAV (0 to 1)"
 abbrev pub kinds : Model → Mnemonic → List Kind
-kinds model (Of x) = settingKinds model x
+kinds model (OfSetting x) = settingKinds model x
 kinds model (Cf k) = factor ∷ []
-kinds model (Asked q) = []
+kinds model (OfQuery q) = []
 kinds model Com = whole 0 2 ∷ []
 kinds model Sav = whole 0 1 ∷ []
 
 -- up to three kinds as the code hands them about
 abbrev pub packed : List Kind → Kinds
-packed ks = record { count = length ks; first = getD ks 0 Threshold; second = getD ks 1 Threshold; third = getD ks 2 Threshold }
+packed ks = record { count = length ks; first = getD ks 0 OfThreshold; second = getD ks 1 OfThreshold; third = getD ks 2 OfThreshold }

@@ -15,10 +15,10 @@ use Rattle.settings.specs.Kinds.{kinds, packed}
 use Rattle.settings.specs.Rows.{row}
 use Rattle.settings.specs.declared.model.Model.{Model}
 use Rattle.settings.specs.declared.mnemonic.Setting.{Setting}
-use Rattle.settings.specs.declared.mnemonic.Mnemonic.the-variants.{Setting as Of}
+use Rattle.settings.specs.declared.mnemonic.Mnemonic.the-variants.{OfSetting}
 use Rattle.settings.specs.declared.kinds.Limits.{Limits}
 use Rattle.settings.specs.declared.kinds.Kind.{Kind}
-use Rattle.settings.specs.declared.kinds.Kind.the-variants.{Whole, Factor, Threshold as Level}
+use Rattle.settings.specs.declared.kinds.Kind.the-variants.{OfWhole, OfFactor, OfThreshold}
 use Rattle.settings.specs.declared.kinds.Kinds.{Kinds}
 use Rattle.settings.specs.declared.rows.Row.{Row}
 use Rattle.settings.specs.declared.Settings.{Settings}
@@ -29,9 +29,9 @@ inside l c = between (pos 0) (pos 0) (c .exponent) && (leb (l .least) (c .mantis
 
 -- a field of the kind may hold the cell
 abbrev pub fits : Kind → Threshold → Bool
-fits (Whole l) c = inside l c
-fits (Factor l) c = inside l c
-fits Level c = withinStops c
+fits (OfWhole l) c = inside l c
+fits (OfFactor l) c = inside l c
+fits OfThreshold c = withinStops c
 
 -- two cells are the same
 abbrev pub sameCell : Threshold → Threshold → Bool
@@ -54,14 +54,14 @@ rowFits ks = cellsFit (packed ks)
 
 -- the row of a setting, beside its default on the model
 abbrev pub rowWithin : Model → Settings → Setting → Bool
-rowWithin model s x = rowFits (kinds model (Of x)) (row s x) (row (defaults model) x)
+rowWithin model s x = rowFits (kinds model (OfSetting x)) (row s x) (row (defaults model) x)
 
 -- all of the sheet
 unfoldable pub within : Model → Settings → Bool
 within model s = every (rowWithin model s) (sheet model)
 
 -- the arrays have their lengths, as the type of the settings says; what a list of a definition cannot say by itself
-pub record Shaped (s : Settings) : Type 0 where
+pub record SettingsShaped (s : Settings) : Type 0 where
   pub filters : length (s .filters) ≡ 2
   pub factors : length (s .factors) ≡ 2
   pub resolutions : length (s .resolutions) ≡ 2

@@ -15,7 +15,7 @@ use Rattle.settings.specs.declared.mnemonic.Query.the-variants.{Sps, Pr,
 use Rattle.settings.specs.declared.mnemonic.Named.{Named}
 use Rattle.settings.specs.declared.mnemonic.Named.the-variants.{Known, Unknown}
 use Rattle.settings.specs.declared.mnemonic.Mnemonic.{Mnemonic}
-use Rattle.settings.specs.declared.mnemonic.Mnemonic.the-variants.{Setting as Of, Cf, Query as Asked, Com, Sav}
+use Rattle.settings.specs.declared.mnemonic.Mnemonic.the-variants.{OfSetting, Cf, OfQuery, Com, Sav}
 
 -- "UNI FIL CAL DCD SP1 SP2 SP3 SP4 ERA EVA FMT LNG NAD PRE PRO PUC DCS (the seventeen of the sheet, in this order)"
 abbrev pub sheet : Model → List Setting
@@ -28,15 +28,15 @@ sheetAt model i = getD (sheet model) i Uni
 
 -- "and CF1 CF2 SPS PR1 PR2 PRX TID AYT ERR COM SAV"
 abbrev pub others : List Mnemonic
-others = Cf 0 ∷ Cf 1 ∷ Asked Sps ∷ Asked (Pr 0) ∷ Asked (Pr 1) ∷ Asked Prx ∷ Asked Tid ∷ Asked Ayt ∷ Asked Err ∷ Com ∷ Sav ∷ []
+others = Cf 0 ∷ Cf 1 ∷ OfQuery Sps ∷ OfQuery (Pr 0) ∷ OfQuery (Pr 1) ∷ OfQuery Prx ∷ OfQuery Tid ∷ OfQuery Ayt ∷ OfQuery Err ∷ Com ∷ Sav ∷ []
 
 -- all that are known: those of the sheet and the others
 unfoldable pub known : Model → List Mnemonic
-known model = map Of (sheet model) ++ others
+known model = map OfSetting (sheet model) ++ others
 
 -- a mnemonic that is known, by its place
 abbrev pub knownAt : Model → ℕ → Mnemonic
-knownAt model i = getD (known model) i (Of Uni)
+knownAt model i = getD (known model) i (OfSetting Uni)
 
 -- a name that ends with a number, counted from 1
 abbrev pub numbered : String → ℕ → List ℕ
@@ -67,9 +67,9 @@ queryName Err = ascii "ERR"
 
 -- the name of each mnemonic
 abbrev pub name : Mnemonic → List ℕ
-name (Of x) = settingName x
+name (OfSetting x) = settingName x
 name (Cf k) = numbered "CF" k
-name (Asked q) = queryName q
+name (OfQuery q) = queryName q
 name Com = ascii "COM"
 name Sav = ascii "SAV"
 
@@ -100,9 +100,9 @@ queryChannel Err = 0
 
 -- and so for every mnemonic
 abbrev pub channelOf : Mnemonic → ℕ
-channelOf (Of x) = 0
+channelOf (OfSetting x) = 0
 channelOf (Cf k) = k
-channelOf (Asked q) = queryChannel q
+channelOf (OfQuery q) = queryChannel q
 channelOf Com = 0
 channelOf Sav = 0
 
@@ -113,9 +113,9 @@ isKnown Unknown = false
 
 -- COM and SAV have no reply: "after COM and SAV the selection is none"
 abbrev pub hasReply : Mnemonic → Bool
-hasReply (Of x) = true
+hasReply (OfSetting x) = true
 hasReply (Cf k) = true
-hasReply (Asked q) = true
+hasReply (OfQuery q) = true
 hasReply Com = false
 hasReply Sav = false
 
@@ -134,8 +134,8 @@ queryIsErr Err = true
 
 -- and so for every mnemonic
 abbrev pub isErr : Mnemonic → Bool
-isErr (Of x) = false
+isErr (OfSetting x) = false
 isErr (Cf k) = false
-isErr (Asked q) = queryIsErr q
+isErr (OfQuery q) = queryIsErr q
 isErr Com = false
 isErr Sav = false

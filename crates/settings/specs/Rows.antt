@@ -11,7 +11,7 @@ use Rattle.settings.specs.declared.model.Model.{Model}
 use Rattle.settings.specs.declared.mnemonic.Setting.{Setting}
 use Rattle.settings.specs.declared.mnemonic.Setting.the-variants.{Uni, Fil, Cal, Dcd, Sp, Stored}
 use Rattle.settings.specs.declared.mnemonic.Mnemonic.{Mnemonic}
-use Rattle.settings.specs.declared.mnemonic.Mnemonic.the-variants.{Setting as Of, Cf, Query as Asked, Com, Sav}
+use Rattle.settings.specs.declared.mnemonic.Mnemonic.the-variants.{OfSetting, Cf, OfQuery, Com, Sav}
 use Rattle.settings.specs.declared.Switching.{Switching}
 use Rattle.settings.specs.declared.Settings.{Settings}
 use Rattle.settings.specs.declared.rows.Row.{Row}
@@ -50,12 +50,12 @@ abbrev pub listed : Row → List Threshold
 listed r = r .first ∷ r .second ∷ r .third ∷ []
 
 -- "per channel": a model has as many cells of a setting as it takes fields
-abbrev pub count : Model → Setting → ℕ
-count model x = length (kinds model (Of x))
+abbrev pub fieldCount : Model → Setting → ℕ
+fieldCount model x = length (kinds model (OfSetting x))
 
 -- and those are they
 abbrev pub cells : Model → Settings → Setting → List Threshold
-cells model s x = take (count model x) (listed (row s x))
+cells model s x = take (fieldCount model x) (listed (row s x))
 
 -- the settings with one part replaced
 abbrev pub withUnit : Settings → ℕ → Settings
@@ -77,24 +77,24 @@ abbrev pub withStored : Settings → List ℕ → Settings
 withStored s v = record { unit = s .unit; filters = s .filters; factors = s .factors; resolutions = s .resolutions; switching = s .switching; stored = v }
 
 -- the number in the first cell, and those in the first two
-abbrev pub number : Row → ℕ
-number r = r .first .mantissa
+abbrev pub firstNumber : Row → ℕ
+firstNumber r = r .first .mantissa
 
 abbrev pub pair : Row → List ℕ
 pair r = r .first .mantissa ∷ r .second .mantissa ∷ []
 
 -- "assignment .., lower, upper", from its cells
 abbrev pub switchingOf : Row → Switching
-switchingOf r = record { assignment = number r; lower = r .second; upper = r .third }
+switchingOf r = record { assignment = firstNumber r; lower = r .second; upper = r .third }
 
 -- the settings with other cells for a setting
 abbrev pub withRow : Settings → Setting → Row → Settings
-withRow s Uni r = withUnit s (number r)
+withRow s Uni r = withUnit s (firstNumber r)
 withRow s Fil r = withFilters s (pair r)
 withRow s Cal r = withFactors s (pair r)
 withRow s Dcd r = withResolutions s (pair r)
 withRow s (Sp k) r = withSwitching s (set (s .switching) k (switchingOf r))
-withRow s (Stored k) r = withStored s (set (s .stored) k (number r))
+withRow s (Stored k) r = withStored s (set (s .stored) k (firstNumber r))
 
 -- the first n cells of r, and the others of q
 abbrev pub mixed : ℕ → Row → Row → Row
@@ -106,8 +106,8 @@ mixed n r q = record {
 
 -- the settings after an accepted line: as many cells of its setting as it has fields; CFx: "it writes CAL's own cell"
 abbrev pub stored : Model → Settings → Mnemonic → Row → Settings
-stored model s (Of x) r = withRow s x (mixed (count model x) r (row s x))
-stored model s (Cf k) r = withFactors s (set (s .factors) k (number r))
-stored model s (Asked q) r = s
+stored model s (OfSetting x) r = withRow s x (mixed (fieldCount model x) r (row s x))
+stored model s (Cf k) r = withFactors s (set (s .factors) k (firstNumber r))
+stored model s (OfQuery q) r = s
 stored model s Com r = s
 stored model s Sav r = s

@@ -3,7 +3,7 @@ ghost use mathlib.Core.Path.{_≡_};
 ghost use mathlib.Core.List.{[], _∷_};
 ghost use Rattle.settings.specs.Kinds.{packed, whole, factor, assignment, perChannel, storedKinds, switchingKinds, settingKinds, kinds};
 ghost use Rattle.settings.specs.declared.mnemonic.Setting.the-variants.{Uni, Fil, Cal, Dcd};
-ghost use Rattle.settings.specs.declared.kinds.Kind.the-variants.{Threshold};
+ghost use Rattle.settings.specs.declared.kinds.Kind.the-variants.{OfThreshold};
 use crate::mnemonic::Mnemonic;
 use crate::mnemonic::Setting;
 use crate::model::Model;
@@ -16,10 +16,10 @@ pub struct Limits {
 }
 
 pub enum Kind {
-    Whole(Limits),
+    OfWhole(Limits),
     // in thousandths
-    Factor(Limits),
-    Threshold,
+    OfFactor(Limits),
+    OfThreshold,
 }
 
 // Up to three kinds.
@@ -33,7 +33,7 @@ pub struct Kinds {
 fn whole(least: u32, most: u32) -> Kind
     ensures { λ r. ⌜ r ≡ whole least most ⌝ }
 {
-    Kind::Whole(Limits {
+    Kind::OfWhole(Limits {
         least,
         most,
         reach: most,
@@ -43,7 +43,7 @@ fn whole(least: u32, most: u32) -> Kind
 fn factor() -> Kind
     ensures { λ r. ⌜ r ≡ factor ⌝ }
 {
-    Kind::Factor(Limits {
+    Kind::OfFactor(Limits {
         least: 100,
         most: 10000,
         reach: 10000,
@@ -55,9 +55,9 @@ fn none() -> Kinds
 {
     Kinds {
         count: 0,
-        first: Kind::Threshold,
-        second: Kind::Threshold,
-        third: Kind::Threshold,
+        first: Kind::OfThreshold,
+        second: Kind::OfThreshold,
+        third: Kind::OfThreshold,
     }
 }
 
@@ -67,8 +67,8 @@ fn one(k: Kind) -> Kinds
     Kinds {
         count: 1,
         first: k,
-        second: Kind::Threshold,
-        third: Kind::Threshold,
+        second: Kind::OfThreshold,
+        third: Kind::OfThreshold,
     }
 }
 
@@ -89,12 +89,12 @@ impl Model {
         ensures { λ r. ⌜ r ≡ assignment self ⌝ }
     {
         match self {
-            Model::Tpg361 => Kind::Whole(Limits {
+            Model::Tpg361 => Kind::OfWhole(Limits {
                 least: 0,
                 most: 2,
                 reach: 3,
             }),
-            Model::Tpg362 => Kind::Whole(Limits {
+            Model::Tpg362 => Kind::OfWhole(Limits {
                 least: 0,
                 most: 3,
                 reach: 3,
@@ -111,7 +111,7 @@ impl Model {
                 count: 2,
                 first: k,
                 second: k,
-                third: Kind::Threshold,
+                third: Kind::OfThreshold,
             },
         }
     }
@@ -166,8 +166,8 @@ impl Model {
         Kinds {
             count: 3,
             first: self.assignment(),
-            second: Kind::Threshold,
-            third: Kind::Threshold,
+            second: Kind::OfThreshold,
+            third: Kind::OfThreshold,
         }
     }
 
@@ -189,9 +189,9 @@ impl Model {
         ensures { λ r. ⌜ r ≡ packed (kinds self m) ⌝ }
     {
         match m {
-            Mnemonic::Setting(x) => self.setting_kinds(x),
+            Mnemonic::OfSetting(x) => self.setting_kinds(x),
             Mnemonic::Cf(_) => one(factor()),
-            Mnemonic::Query(_) => none(),
+            Mnemonic::OfQuery(_) => none(),
             Mnemonic::Com => one_whole(0, 2),
             Mnemonic::Sav => one_whole(0, 1),
         }

@@ -29,9 +29,9 @@ fn fits(kind: Kind, cell: Threshold) -> bool
     ensures { λ r. ⌜ r ≡ fits kind cell ⌝ }
 {
     match kind {
-        Kind::Whole(l) => is_inside(l, cell),
-        Kind::Factor(l) => is_inside(l, cell),
-        Kind::Threshold => cell.is_within(),
+        Kind::OfWhole(l) => is_inside(l, cell),
+        Kind::OfFactor(l) => is_inside(l, cell),
+        Kind::OfThreshold => cell.is_within(),
     }
 }
 

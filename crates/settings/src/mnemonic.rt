@@ -6,7 +6,7 @@ ghost use Prim.Native.Nat.{_<_, _+_, _*_};
 ghost use lib.Dec.{eqb};
 ghost use lib.ListN.{getD};
 ghost use Rattle.settings.specs.Mnemonics.{sheetAt, knownAt, name, recognised, channelOf, isKnown, answers, isErr};
-ghost use Rattle.settings.specs.declared.mnemonic.Mnemonic.the-variants.{Setting as Of};
+ghost use Rattle.settings.specs.declared.mnemonic.Mnemonic.the-variants.{OfSetting};
 use crate::model::Model;
 
 // Those of the sheet, each of which holds settings.
@@ -32,10 +32,10 @@ pub enum Query {
 }
 
 pub enum Mnemonic {
-    Setting(Setting),
+    OfSetting(Setting),
     // CF1 and CF2 from 0 on
     Cf(u8),
-    Query(Query),
+    OfQuery(Query),
     Com,
     Sav,
 }
@@ -63,13 +63,13 @@ const SHEET: [Setting; 17] = [
 const OTHERS: [Mnemonic; 11] = [
     Mnemonic::Cf(0),
     Mnemonic::Cf(1),
-    Mnemonic::Query(Query::Sps),
-    Mnemonic::Query(Query::Pr(0)),
-    Mnemonic::Query(Query::Pr(1)),
-    Mnemonic::Query(Query::Prx),
-    Mnemonic::Query(Query::Tid),
-    Mnemonic::Query(Query::Ayt),
-    Mnemonic::Query(Query::Err),
+    Mnemonic::OfQuery(Query::Sps),
+    Mnemonic::OfQuery(Query::Pr(0)),
+    Mnemonic::OfQuery(Query::Pr(1)),
+    Mnemonic::OfQuery(Query::Prx),
+    Mnemonic::OfQuery(Query::Tid),
+    Mnemonic::OfQuery(Query::Ayt),
+    Mnemonic::OfQuery(Query::Err),
     Mnemonic::Com,
     Mnemonic::Sav,
 ];
@@ -114,7 +114,7 @@ impl Model {
         ensures { λ r. ⌜ r ≡ knownAt self i ⌝ }
     {
         if i < Model::SHEET_LENGTH {
-            return Mnemonic::Setting(self.sheet_at(i));
+            return Mnemonic::OfSetting(self.sheet_at(i));
         }
         OTHERS[i - Model::SHEET_LENGTH]
     }
@@ -137,7 +137,7 @@ impl Model {
 
     // Whether a setting is one that has a name.
     fn has(self, x: Setting) -> bool
-        ensures { λ r. ⌜ r ≡ isKnown (recognised self (name (Of x))) ⌝ }
+        ensures { λ r. ⌜ r ≡ isKnown (recognised self (name (OfSetting x))) ⌝ }
     {
         match x {
             Setting::Uni => true,
@@ -154,9 +154,9 @@ impl Model {
         ensures { λ r. ⌜ r ≡ answers self m ⌝ }
     {
         match m {
-            Mnemonic::Setting(x) => self.has(x),
+            Mnemonic::OfSetting(x) => self.has(x),
             Mnemonic::Cf(k) => (k as usize) < self.channels(),
-            Mnemonic::Query(_) => (m.channel() as usize) < self.channels(),
+            Mnemonic::OfQuery(_) => (m.channel() as usize) < self.channels(),
             Mnemonic::Com => false,
             Mnemonic::Sav => false,
         }
@@ -169,9 +169,9 @@ impl Mnemonic {
         ensures { λ r. ⌜ r ≡ isErr self ⌝ }
     {
         match self {
-            Mnemonic::Setting(_) => false,
+            Mnemonic::OfSetting(_) => false,
             Mnemonic::Cf(_) => false,
-            Mnemonic::Query(q) => match q {
+            Mnemonic::OfQuery(q) => match q {
                 Query::Sps => false,
                 Query::Pr(_) => false,
                 Query::Prx => false,
@@ -189,9 +189,9 @@ impl Mnemonic {
         ensures { λ r. ⌜ r ≡ channelOf self ⌝ }
     {
         match self {
-            Mnemonic::Setting(_) => 0,
+            Mnemonic::OfSetting(_) => 0,
             Mnemonic::Cf(k) => k,
-            Mnemonic::Query(q) => match q {
+            Mnemonic::OfQuery(q) => match q {
                 Query::Pr(k) => k,
                 Query::Sps => 0,
                 Query::Prx => 0,

@@ -147,7 +147,7 @@ impl Settings {
     {
         let mut s = self;
         match m {
-            Mnemonic::Setting(x) => {
+            Mnemonic::OfSetting(x) => {
                 let ks = model.shape(m);
                 s = s.with_row(x, mixed(ks.count, r, s.row(x)));
             }
@@ -158,7 +158,7 @@ impl Settings {
                     s.factors[i] = a.mantissa;
                 }
             }
-            Mnemonic::Query(_) => {}
+            Mnemonic::OfQuery(_) => {}
             Mnemonic::Com => {}
             Mnemonic::Sav => {}
         }

@@ -9,20 +9,20 @@ use lib.ListN.{length, getD}
 use lib.Dec.{eqb}
 use Rattle.ground.proofs.Tables.{everywhere}
 use Rattle.ground.proofs.Cases.{never}
-use Rattle.text.specs.Hex.{digitOf, hex, valueOf, isDigit, isHex, unhex}
+use Rattle.text.specs.Hex.{digitOf, hex, valueOf, isHexDigit, isHex, unhex}
 
 -- both ways for a digit, each by one computed test
 pub value-back : (n : ℕ) → n < 16 → valueOf (digitOf n) ≡ n
 unfolding digitOf valueOf
 value-back n h = eqb-true (valueOf (digitOf n)) n (everywhere (λ (k : ℕ). eqb (valueOf (digitOf k)) k) 16 refl n h)
 
-pub digit-back : (c : ℕ) → c < 256 → isDigit c ≡ true → digitOf (valueOf c) ≡ c
+pub digit-back : (c : ℕ) → c < 256 → isHexDigit c ≡ true → digitOf (valueOf c) ≡ c
 unfolding digitOf valueOf
 digit-back c h e =
-    let test : cond (isDigit c) (eqb (digitOf (valueOf c)) c) true ≡ true = everywhere (λ (k : ℕ). cond (isDigit k) (eqb (digitOf (valueOf k)) k) true) 256 refl c h in
+    let test : cond (isHexDigit c) (eqb (digitOf (valueOf c)) c) true ≡ true = everywhere (λ (k : ℕ). cond (isHexDigit k) (eqb (digitOf (valueOf k)) k) true) 256 refl c h in
     eqb-true (digitOf (valueOf c)) c (rw e at test)
 
-pub value-digit : (n : ℕ) → n < 16 → isDigit (digitOf n) ≡ true
+pub value-digit : (n : ℕ) → n < 16 → isHexDigit (digitOf n) ≡ true
 value-digit n h = rw (value-back n h) (lt-ltb n 16 h)
 
 -- a byte that two digits stand for is one
@@ -32,10 +32,10 @@ unhex-small [] e zero = omega arith
 unhex-small [] e (suc i) = omega arith
 unhex-small (a ∷ []) e i = never (cc)
 unhex-small (a ∷ b ∷ l) e zero =
-    let both = and-eq-true-iff (isDigit a && isDigit b) (isHex l) .0 e in
-    let each = and-eq-true-iff (isDigit a) (isDigit b) .0 (both .0) in
+    let both = and-eq-true-iff (isHexDigit a && isHexDigit b) (isHex l) .0 e in
+    let each = and-eq-true-iff (isHexDigit a) (isHexDigit b) .0 (both .0) in
     omega (arith, ltb-true (valueOf a) 16 (each .0), ltb-true (valueOf b) 16 (each .1))
-unhex-small (a ∷ b ∷ l) e (suc i) = unhex-small l (and-eq-true-iff (isDigit a && isDigit b) (isHex l) .0 e .1) i
+unhex-small (a ∷ b ∷ l) e (suc i) = unhex-small l (and-eq-true-iff (isHexDigit a && isHexDigit b) (isHex l) .0 e .1) i
 
 -- bytes written are read back as they were
 pub bytes-back : (bs : List ℕ) → ((i : ℕ) → getD bs i 0 < 256) → (isHex (hex bs) ≡ true) × (unhex (hex bs) ≡ bs)
@@ -54,8 +54,8 @@ unfolding hex isHex unhex
 line-back [] small e = refl
 line-back (a ∷ []) small e = never (cc)
 line-back (a ∷ b ∷ l) small e =
-    let both = and-eq-true-iff (isDigit a && isDigit b) (isHex l) .0 e in
-    let each = and-eq-true-iff (isDigit a) (isDigit b) .0 (both .0) in
+    let both = and-eq-true-iff (isHexDigit a && isHexDigit b) (isHex l) .0 e in
+    let each = and-eq-true-iff (isHexDigit a) (isHexDigit b) .0 (both .0) in
     let below : valueOf b < 16 = ltb-true (valueOf b) 16 (each .1) in
     let high : (16 * valueOf a + valueOf b) / 16 ≡ valueOf a = omega (arith, below) in
     let low : (16 * valueOf a + valueOf b) % 16 ≡ valueOf b = omega (arith, below) in
@@ -71,4 +71,4 @@ pub odd-not-hex : (l : List ℕ) → length l % 2 ≡ 1 → isHex l ≡ false
 unfolding isHex
 odd-not-hex [] h = never h
 odd-not-hex (a ∷ []) h = refl
-odd-not-hex (a ∷ b ∷ rest) h = rw (odd-not-hex rest (omega (arith, h))) (and-false (isDigit a && isDigit b))
+odd-not-hex (a ∷ b ∷ rest) h = rw (odd-not-hex rest (omega (arith, h))) (and-false (isHexDigit a && isHexDigit b))

@@ -7,35 +7,35 @@ use lib.Dec.{leb, ltb}
 use Rattle.text.specs.Text.{ascii}
 
 -- the sixteen digits
-abbrev pub digits : List ℕ
-digits = ascii "0123456789ABCDEF"
+abbrev pub hexDigits : List ℕ
+hexDigits = ascii "0123456789ABCDEF"
 
 -- the digit of a value below 16
 unfoldable pub digitOf : ℕ → ℕ
-digitOf n = getD digits n 0
+digitOf n = getD hexDigits n 0
 
 -- the two digits of a byte
-abbrev pub pair : ℕ → List ℕ
-pair b = digitOf (b / 16) ∷ digitOf (b % 16) ∷ []
+abbrev pub hexPair : ℕ → List ℕ
+hexPair b = digitOf (b / 16) ∷ digitOf (b % 16) ∷ []
 
 -- bytes in hexadecimal
 unfoldable pub hex : List ℕ → List ℕ
 hex [] = []
-hex (b ∷ bs) = pair b ++ hex bs
+hex (b ∷ bs) = hexPair b ++ hex bs
 
 -- the value of a digit, its place among the sixteen; 16 for any other character
 unfoldable pub valueOf : ℕ → ℕ
 valueOf c = cond (leb 48 c && leb c 57) (c - 48) (cond (leb 65 c && leb c 70) (c - 55) 16)
 
 -- the character is a digit
-abbrev pub isDigit : ℕ → Bool
-isDigit c = ltb (valueOf c) 16
+abbrev pub isHexDigit : ℕ → Bool
+isHexDigit c = ltb (valueOf c) 16
 
 -- pairs of digits, and nothing else
 unfoldable pub isHex : List ℕ → Bool
 isHex [] = true
 isHex (a ∷ []) = false
-isHex (a ∷ b ∷ rest) = (isDigit a && isDigit b) && isHex rest
+isHex (a ∷ b ∷ rest) = (isHexDigit a && isHexDigit b) && isHex rest
 
 -- the bytes that pairs of digits stand for
 unfoldable pub unhex : List ℕ → List ℕ

@@ -11,7 +11,7 @@ use Rattle.gauges.specs.declared.reading.Reading.{Reading}
 use Rattle.tpg.specs.Answers.{answer, handed, leastOutput}
 use Rattle.tpg.specs.States.{stateWithin}
 use Rattle.tpg.specs.Steps.{sent, after, said, taken, over}
-use Rattle.tpg.specs.Calls.{admits, turnedAway, roomed, roomedBytes, byteTaken, byteCall, byteBytes, hostText, hosted, hostCall, hostBytes, isChannel, read, readingCall}
+use Rattle.tpg.specs.Calls.{admits, turnedAway, roomed, roomedBytes, byteTaken, byteCall, byteBytes, hostText, hosted, hostCall, hostBytes, isChannel, withReading, readingCall}
 use Rattle.tpg.specs.declared.State.{State}
 use Rattle.tpg.specs.declared.answers.Outcome.{Outcome}
 
@@ -55,15 +55,15 @@ module _ (s : State) (channel : ℕ) (r : Reading) where
   unfolding readingCall
   unsound e = rw e
 
-  pub elsewhere : stateWithin s ≡ true → isChannel (s .shared .model) channel ≡ false → handed (answer 4) s ≡ readingCall s channel r
+  pub elsewhere : stateWithin s ≡ true → isChannel (s .instrument .model) channel ≡ false → handed (answer 4) s ≡ readingCall s channel r
   unfolding readingCall
   elsewhere e c = rw (e, c)
 
-  pub outside : stateWithin s ≡ true → isChannel (s .shared .model) channel ≡ true → withinLimits r ≡ false → handed (answer 5) s ≡ readingCall s channel r
+  pub outside : stateWithin s ≡ true → isChannel (s .instrument .model) channel ≡ true → withinLimits r ≡ false → handed (answer 5) s ≡ readingCall s channel r
   unfolding readingCall
   outside e c w = rw (e, c, w)
 
-  pub accepted : stateWithin s ≡ true → isChannel (s .shared .model) channel ≡ true → withinLimits r ≡ true
-      → handed (answer 0) (read s (channel - 1) r) ≡ readingCall s channel r
+  pub accepted : stateWithin s ≡ true → isChannel (s .instrument .model) channel ≡ true → withinLimits r ≡ true
+      → handed (answer 0) (withReading s (channel - 1) r) ≡ readingCall s channel r
   unfolding readingCall
   accepted e c w = rw (e, c, w)

@@ -1,4 +1,4 @@
--- What the definitions give where docs/PROMISES.md names a wrong answer.
+-- What the definitions give where docs/promises/ names a wrong answer.
 use Prim.Native.Nat.{ℕ, _+_, _≤_, _<_}
 use mathlib.Core.Path.{_≡_, refl, sym}
 use mathlib.Core.List.{[], _∷_, append-nil}
@@ -22,7 +22,7 @@ use Rattle.ports.specs.Hearing.{kindOf, byKind, heard}
 use Rattle.ports.specs.Limits.{portWithin}
 use Rattle.ports.specs.Stream.{ticked}
 use Rattle.ports.specs.declared.Event.the-variants.{Line}
-use Rattle.shared.specs.Limits.{sharedWithin}
+use Rattle.instrument.specs.Limits.{instrumentWithin}
 use Rattle.tpg.specs.Answers.{answer, handed, leastOutput}
 use Rattle.tpg.specs.States.{stateWithin, freshBox}
 use Rattle.tpg.specs.Steps.{lineText, eventText, hearing, sent, said, taken}
@@ -49,13 +49,13 @@ serial-refused n serial h = by (modelOf n)
 module _ (s : State) where
   -- ---- the limits
 
-  pub shared-refused : sharedWithin (s .shared) ≡ false → stateWithin s ≡ false
+  pub instrument-refused : instrumentWithin (s .instrument) ≡ false → stateWithin s ≡ false
   unfolding stateWithin
-  shared-refused e = rw e
+  instrument-refused e = rw e
 
-  pub port-refused : portWithin (s .shared .model) (s .port) ≡ false → stateWithin s ≡ false
+  pub port-refused : portWithin (s .instrument .model) (s .port) ≡ false → stateWithin s ≡ false
   unfolding stateWithin
-  port-refused e = rw (e, and-false (sharedWithin (s .shared)))
+  port-refused e = rw (e, and-false (instrumentWithin (s .instrument)))
 
   -- ---- a call with an output, by its state and its room
 
@@ -81,7 +81,7 @@ module _ (s : State) where
   -- ACK or NAK, and the end of the line
   cr-sends : length (sent s 13) ≡ 3
   unfolding sent eventText heard kindOf byKind
-  cr-sends = rw (and-false (s .port .ended)) (by (judged (s .shared .model) (held (s .port))))
+  cr-sends = rw (and-false (s .port .ended)) (by (judged (s .instrument .model) (held (s .port))))
     where
       by : (v : Verdict) → length (lineText v) ≡ 3
       by (Asks m) = refl

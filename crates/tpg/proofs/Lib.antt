@@ -1,9 +1,9 @@
 pub mod Laying
 pub mod Sending
-pub mod Runs
+pub mod HostRun
 pub mod Ticking
 pub mod Deciding
 pub mod Instances
 pub mod Refusals
 pub mod Counts
-pub mod Kept
+pub mod StateLimits

@@ -8,7 +8,7 @@ use Rattle.gauges.specs.declared.reading.Reading.{Reading}
 use Rattle.tpg.specs.Answers.{number, table, answer, handed}
 use Rattle.tpg.specs.States.{stateWithin, cycled}
 use Rattle.tpg.specs.Steps.{over}
-use Rattle.tpg.specs.Calls.{admits, turnedAway, roomed, roomedBytes, isChannel, read, readingCall, cycleCall}
+use Rattle.tpg.specs.Calls.{admits, turnedAway, roomed, roomedBytes, isChannel, withReading, readingCall, cycleCall}
 use Rattle.tpg.specs.declared.State.{State}
 use Rattle.tpg.specs.declared.answers.Outcome.{Outcome}
 
@@ -35,9 +35,9 @@ module _ (s : State) where
 
   pub reading-back : (channel : ℕ) (r : Reading) → Back s (readingCall s channel r)
   unfolding readingCall
-  reading-back channel r = by (stateWithin s) (isChannel (s .shared .model) channel) (withinLimits r)
+  reading-back channel r = by (stateWithin s) (isChannel (s .instrument .model) channel) (withinLimits r)
     where
-      by : (a b c : Bool) → Back s (cond a (cond b (cond c (handed (answer 0) (read s (channel - 1) r)) (handed (answer 5) s)) (handed (answer 4) s)) (handed (answer 1) s))
+      by : (a b c : Bool) → Back s (cond a (cond b (cond c (handed (answer 0) (withReading s (channel - 1) r)) (handed (answer 5) s)) (handed (answer 4) s)) (handed (answer 1) s))
       by false b c n = refl
       by true false c n = refl
       by true true false n = refl

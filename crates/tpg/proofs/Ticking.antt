@@ -10,8 +10,8 @@ use Rattle.text.specs.Page.{page, puts}
 use Rattle.ports.specs.Stream.{ticked}
 use Rattle.ports.specs.declared.Port.{Port}
 use Rattle.ports.specs.declared.Ticked.{Ticked}
-use Rattle.shared.specs.Replies.{streamText}
-use Rattle.shared.proofs.Lengths.{stream-length}
+use Rattle.instrument.specs.Replies.{streamText}
+use Rattle.instrument.proofs.Lengths.{stream-length}
 use Rattle.tpg.specs.Answers.{done, leastOutput}
 use Rattle.tpg.specs.Steps.{over}
 use Rattle.tpg.proofs.Laying.{laidAt, over-more, over-length, laid-nothing, copied}
@@ -61,7 +61,7 @@ module _ (s : State) (room : ℕ) where
 -- where n ticks stand after i of them that sent w
 pub record Counting (s : State) (n : ℕ) (out₀ : List ℕ) (port : Port) (out : List ℕ) (i w : ℕ) : Type 0 where
   pub low : i ≤ n
-  pub state : record { shared = s .shared; port = port } ≡ afterTicks s i
+  pub state : record { instrument = s .instrument; port = port } ≡ afterTicks s i
   pub bytes : out ≡ over (ticksText s i) out₀
   pub count : w ≡ length (ticksText s i)
 
@@ -71,7 +71,7 @@ start s n out₀ = record { low = omega arith; state = refl; bytes = refl; count
 
 module _ {s : State} {n : ℕ} {out₀ : List ℕ} {port : Port} {out : List ℕ} {i w : ℕ} (g : Counting s n out₀ port out i w) where
   abbrev now : State
-  now = record { shared = s .shared; port = port }
+  now = record { instrument = s .instrument; port = port }
 
   pub ended : n ≤ i → (done now 0 w ≡ allCounted s n) × (out ≡ over (ticksText s n) out₀)
   ended h =
@@ -79,32 +79,32 @@ module _ {s : State} {n : ℕ} {out₀ : List ℕ} {port : Port} {out : List ℕ
       rw (← e) ((λ j. done (g .state j) 0 (g .count j)), g .bytes)
 
   module _ (room : leastOutput * n ≤ length out₀) where
-    pub same-length : length out ≡ length out₀
-    same-length = rw (g .bytes) (over-length (ticksText s i) out₀ (omega (arith, g .low, ticks-length i s)))
+    pub length-kept : length out ≡ length out₀
+    length-kept = rw (g .bytes) (over-length (ticksText s i) out₀ (omega (arith, g .low, ticks-length i s)))
 
     -- a tick that was counted, and what it sent
     module _ (t : Ticked) (more : i < n) (e : t ≡ ticked port) where
-      step : (out' : List ℕ) (w' : ℕ) → out' ≡ laidAt w (dueText (s .shared) (t .due)) out → w' ≡ w + length (dueText (s .shared) (t .due))
+      step : (out' : List ℕ) (w' : ℕ) → out' ≡ laidAt w (dueText (s .instrument) (t .due)) out → w' ≡ w + length (dueText (s .instrument) (t .due))
           → Counting s n out₀ (t .port) out' (i + 1) w'
       unfolding tickText counted
       step out' w' bytes count =
-          let text = dueText (s .shared) (t .due) in
-          let said : text ≡ tickText (afterTicks s i) = ap (λ (x : Ticked). dueText (s .shared) (x .due)) e ∙ ap tickText (g .state) in
+          let text = dueText (s .instrument) (t .due) in
+          let said : text ≡ tickText (afterTicks s i) = ap (λ (x : Ticked). dueText (s .instrument) (x .due)) e ∙ ap tickText (g .state) in
           let all : ticksText s (i + 1) ≡ ticksText s i ++ text = ticks-text-next s i ∙ ap (λ (x : List ℕ). ticksText s i ++ x) (sym said) in
           record {
             low = omega arith;
-            state = (λ j. record { shared = s .shared; port = e j .port }) ∙ ap (λ (x : State). counted x .state) (g .state) ∙ sym (after-ticks-next s i);
+            state = (λ j. record { instrument = s .instrument; port = e j .port }) ∙ ap (λ (x : State). counted x .state) (g .state) ∙ sym (after-ticks-next s i);
             bytes = bytes ∙ rw (g .bytes, g .count) (over-more (ticksText s i) text out₀) ∙ ap (λ (x : List ℕ). over x out₀) (sym all);
             count = rw all (count ∙ rw (g .count) (sym (length-append (ticksText s i) text)));
           }
 
       -- where a line is due, it is copied behind what was sent
-      pub due : t .due ≡ true → (out' : List ℕ) (w' : ℕ) → page out' w' ≡ puts (page out w) (streamText (s .shared))
+      pub due : t .due ≡ true → (out' : List ℕ) (w' : ℕ) → page out' w' ≡ puts (page out w) (streamText (s .instrument))
           → Counting s n out₀ (t .port) out' (i + 1) w'
       due d out' w' wrote =
-          let text = streamText (s .shared) in
-          let short = stream-length (s .shared) in
-          let l = copied text out out' w w' wrote (omega (arith, same-length, g .count, ticks-length i s)) in
+          let text = streamText (s .instrument) in
+          let short = stream-length (s .instrument) in
+          let l = copied text out out' w w' wrote (omega (arith, length-kept, g .count, ticks-length i s)) in
           step out' w' (rw d (l .1)) (rw d (l .0))
 
       -- where none is, the output is not touched

@@ -12,10 +12,10 @@ use Rattle.settings.specs.declared.model.Model.the-variants.{Tpg361}
 use Rattle.settings.specs.declared.model.Numbered.{Numbered}
 use Rattle.settings.specs.declared.model.Numbered.the-variants.{One, NoModel}
 use Rattle.ports.specs.Stream.{ticked}
-use Rattle.shared.specs.Events.{taken as readingTaken}
-use Rattle.shared.specs.Limits.{serialWithin}
-use Rattle.shared.specs.Replies.{streamText}
-use Rattle.shared.specs.declared.Shared.{Shared}
+use Rattle.instrument.specs.Events.{measured}
+use Rattle.instrument.specs.Limits.{serialWithin}
+use Rattle.instrument.specs.Replies.{streamText}
+use Rattle.instrument.specs.declared.Instrument.{Instrument}
 use Rattle.tpg.specs.Answers.{answer, handed, done, leastOutput}
 use Rattle.tpg.specs.States.{stateWithin, freshBox, cycled}
 use Rattle.tpg.specs.Steps.{next, sent, after, said, taken}
@@ -80,16 +80,16 @@ abbrev pub hostBytes : State → List ℕ → ℕ → List ℕ
 hostBytes s input room = roomedBytes s leastOutput room (hostText s input room)
 
 -- a line of the stream, where one is due
-abbrev pub dueText : Shared → Bool → List ℕ
+abbrev pub dueText : Instrument → Bool → List ℕ
 dueText s due = cond due (streamText s) []
 
 -- what one tick sends
 unfoldable pub tickText : State → List ℕ
-tickText s = dueText (s .shared) (ticked (s .port) .due)
+tickText s = dueText (s .instrument) (ticked (s .port) .due)
 
 -- one tick counted
 unfoldable pub counted : State → Outcome
-counted s = done (record { shared = s .shared; port = ticked (s .port) .port }) 0 (length (tickText s))
+counted s = done (record { instrument = s .instrument; port = ticked (s .port) .port }) 0 (length (tickText s))
 
 -- the call that takes a tick
 abbrev pub tickCall : State → ℕ → Outcome
@@ -126,15 +126,15 @@ abbrev pub isChannel : Model → ℕ → Bool
 isChannel model channel = leb 1 channel && leb channel (channels model)
 
 -- a reading of a channel, counted from 0
-abbrev pub read : State → ℕ → Reading → State
-read s k r = record { shared = readingTaken (s .shared) k r; port = s .port }
+abbrev pub withReading : State → ℕ → Reading → State
+withReading s k r = record { instrument = measured (s .instrument) k r; port = s .port }
 
 -- "the state handed in breaks a limit": 1; "channel not on the model": 4; "reading outside its limits": 5
 unfoldable pub readingCall : State → ℕ → Reading → Outcome
 readingCall s channel r =
     cond (stateWithin s)
-    (cond (isChannel (s .shared .model) channel)
-    (cond (withinLimits r) (handed (answer 0) (read s (channel - 1) r)) (handed (answer 5) s))
+    (cond (isChannel (s .instrument .model) channel)
+    (cond (withinLimits r) (handed (answer 0) (withReading s (channel - 1) r)) (handed (answer 5) s))
     (handed (answer 4) s))
     (handed (answer 1) s)
 

@@ -6,18 +6,18 @@ use Rattle.settings.specs.Models.{defaults}
 use Rattle.settings.specs.declared.model.Model.{Model}
 use Rattle.settings.specs.declared.Settings.{Settings}
 use Rattle.ports.specs.Hearing.{freshPort}
-use Rattle.ports.specs.Limits.{portWithin, Eighty}
-use Rattle.shared.specs.Events.{started}
-use Rattle.shared.specs.Limits.{sharedWithin, Whole}
+use Rattle.ports.specs.Limits.{portWithin, PortShaped}
+use Rattle.instrument.specs.Events.{started}
+use Rattle.instrument.specs.Limits.{instrumentWithin, InstrumentShaped}
 use Rattle.tpg.specs.declared.State.{State}
 
--- "State limits": those of the shared part and of the port
+-- "State limits": those of the instrument and of the port
 unfoldable pub stateWithin : State → Bool
-stateWithin s = sharedWithin (s .shared) && portWithin (s .shared .model) (s .port)
+stateWithin s = instrumentWithin (s .instrument) && portWithin (s .instrument .model) (s .port)
 
 -- a box that starts with a saved set
 abbrev pub startedBox : Model → ℕ → Settings → State
-startedBox model serial saved = record { shared = started model serial saved; port = freshPort model }
+startedBox model serial saved = record { instrument = started model serial saved; port = freshPort model }
 
 -- a fresh box: its saved set is "the defaults"
 abbrev pub freshBox : Model → ℕ → State
@@ -25,14 +25,14 @@ freshBox model serial = startedBox model serial (defaults model)
 
 -- "A power cycle keeps model, serial and saved set, takes the settings from it, and otherwise starts as a fresh box does"
 abbrev pub cycled : State → State
-cycled s = startedBox (s .shared .model) (s .shared .serial) (s .shared .saved)
+cycled s = startedBox (s .instrument .model) (s .instrument .serial) (s .instrument .saved)
 
 -- the arrays of a state have their lengths, as its type says
-pub record Formed (s : State) : Type 0 where
-  pub shared : Whole (s .shared)
-  pub port : Eighty (s .port)
+pub record StateShaped (s : State) : Type 0 where
+  pub instrument : InstrumentShaped (s .instrument)
+  pub port : PortShaped (s .port)
 
 -- a state that a box can be in: its arrays have their lengths and its values their limits
 pub record Sound (s : State) : Type 0 where
-  pub formed : Formed s
+  pub shaped : StateShaped s
   pub within : stateWithin s ≡ true

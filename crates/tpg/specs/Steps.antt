@@ -7,13 +7,13 @@ use lib.Dec.{leb}
 use Rattle.text.specs.Control.{ack, nak, crLf}
 use Rattle.lines.specs.declared.verdict.Verdict.{Verdict}
 use Rattle.lines.specs.declared.verdict.Verdict.the-variants.{Asks, Writes, Refused}
-use Rattle.ports.specs.Hearing.{heard as portHeard}
+use Rattle.ports.specs.Hearing.{heard}
 use Rattle.ports.specs.declared.Event.{Event}
 use Rattle.ports.specs.declared.Event.the-variants.{Silent, Line, Reply}
 use Rattle.ports.specs.declared.Heard.{Heard}
-use Rattle.shared.specs.Events.{heard}
-use Rattle.shared.specs.Replies.{replyText}
-use Rattle.shared.specs.declared.Shared.{Shared}
+use Rattle.instrument.specs.Events.{applied}
+use Rattle.instrument.specs.Replies.{replyText}
+use Rattle.instrument.specs.declared.Instrument.{Instrument}
 use Rattle.tpg.specs.Answers.{leastOutput}
 use Rattle.tpg.specs.declared.State.{State}
 
@@ -24,28 +24,28 @@ lineText (Writes m r) = ack ∷ crLf
 lineText (Refused x) = nak ∷ crLf
 
 -- what is sent at an event
-unfoldable pub eventText : Shared → Event → List ℕ
+unfoldable pub eventText : Instrument → Event → List ℕ
 eventText s Silent = []
 eventText s (Line v) = lineText v
 eventText s (Reply m error) = replyText s error m
 
--- what an event does to the shared part: only a line can change it
-abbrev pub acted : Shared → Event → Shared
+-- what an event does to the instrument: only a line can change it
+abbrev pub acted : Instrument → Event → Instrument
 acted s Silent = s
-acted s (Line v) = heard s v
+acted s (Line v) = applied s v
 acted s (Reply m error) = s
 
 -- what the port makes of a byte
 abbrev pub hearing : State → ℕ → Heard
-hearing s b = portHeard (s .shared .model) (s .port) b
+hearing s b = heard (s .instrument .model) (s .port) b
 
 -- the state after one byte
 unfoldable pub next : State → ℕ → State
-next s b = record { shared = acted (s .shared) (hearing s b .event); port = hearing s b .port }
+next s b = record { instrument = acted (s .instrument) (hearing s b .event); port = hearing s b .port }
 
 -- what is sent for it
 unfoldable pub sent : State → ℕ → List ℕ
-sent s b = eventText (s .shared) (hearing s b .event)
+sent s b = eventText (s .instrument) (hearing s b .event)
 
 -- the state after bytes, one after the other
 unfoldable pub after : State → List ℕ → State

@@ -3,8 +3,8 @@ ghost use mathlib.Core.Path.{_≡_};
 ghost use Rattle.tpg.specs.Answers.{number, handed, done};
 ghost use Rattle.tpg.specs.Calls.{admits, turnedAway};
 use crate::State;
+use instrument::Instrument;
 use ports::Port;
-use shared::Shared;
 
 pub enum Answer {
     Accepted,
@@ -40,10 +40,10 @@ pub struct Outcome {
 }
 
 // A call that was accepted.
-pub(crate) fn finished(shared: Shared, port: Port, taken: usize, written: usize) -> Outcome
-    ensures { λ r. ⌜ r ≡ done (record { shared = shared; port = port }) taken written ⌝ }
+pub(crate) fn finished(instrument: Instrument, port: Port, taken: usize, written: usize) -> Outcome
+    ensures { λ r. ⌜ r ≡ done (record { instrument = instrument; port = port }) taken written ⌝ }
 {
-    let state = State { shared, port };
+    let state = State { instrument, port };
     Outcome {
         answer: Answer::Accepted,
         state,

@@ -5,16 +5,16 @@ ghost use lib.ListN.{length};
 ghost use Rattle.tpg.specs.Answers.{answer, handed, leastOutput};
 ghost use Rattle.tpg.specs.States.{freshBox};
 ghost use Rattle.tpg.specs.Steps.{over};
-ghost use Rattle.tpg.specs.Calls.{freshCall, tickCall, tickBytes, ticksText, allCounted, ticksCall, ticksBytes, read, readingCall, cycleCall};
+ghost use Rattle.tpg.specs.Calls.{freshCall, tickCall, tickBytes, ticksText, allCounted, ticksCall, ticksBytes, withReading, readingCall, cycleCall};
 use crate::State;
 use crate::answers::Answer;
 use crate::answers::Outcome;
 use crate::answers::finished;
 use gauges::reading::Reading;
+use instrument::Instrument;
 use numbers::value::Value;
 use settings::model::Model;
 use settings::model::Numbered;
-use shared::Shared;
 use text::append;
 
 // What a call without an output asks for.
@@ -35,7 +35,7 @@ impl State {
         let numbered = Model::numbered(number);
         match numbered {
             Numbered::One(model) => {
-                if serial <= Shared::MOST_SERIAL {
+                if serial <= Instrument::MOST_SERIAL {
                     return made(model, serial, Answer::Accepted);
                 }
                 made(Model::Tpg361, 0, Answer::NoModel)
@@ -45,21 +45,21 @@ impl State {
     }
 
     // A reading that is within its limits, of a channel from 0 on.
-    fn take(self, channel: u8, r: Reading) -> Outcome
-        ensures { λ x. ⌜ x ≡ handed (answer 0) (read self channel r) ⌝ }
+    fn with_reading(self, channel: u8, r: Reading) -> Outcome
+        ensures { λ x. ⌜ x ≡ handed (answer 0) (withReading self channel r) ⌝ }
     {
-        let before = self.shared;
+        let before = self.instrument;
         let port = self.port;
-        let shared = before.take(channel, r);
-        finished(shared, port, 0, 0)
+        let instrument = before.measured(channel, r);
+        finished(instrument, port, 0, 0)
     }
 
     // A reading of a channel, from 1 on.
     pub fn reading(self, channel: u8, kind: u8, status: u8, mantissa: i32, exponent: i32) -> Outcome
         ensures { λ r. ⌜ r ≡ readingCall self channel (record { kind = kind; status = status; value = record { mantissa = mantissa; exponent = exponent } }) ⌝ }
     {
-        let shared = self.shared;
-        let model = shared.model;
+        let instrument = self.instrument;
+        let model = instrument.model;
         let value = Value { mantissa, exponent };
         let r = Reading {
             kind,
@@ -69,7 +69,7 @@ impl State {
         if self.admits(NO_OUTPUT, 0) {
             if (1 <= channel) & ((channel as usize) <= model.channels()) {
                 if r.is_within() {
-                    return self.take(channel - 1, r);
+                    return self.with_reading(channel - 1, r);
                 }
                 return self.with_answer(Answer::BadReading);
             }
@@ -83,9 +83,9 @@ impl State {
         requires { ⌜ leastOutput * count ≤ length (now out) ⌝ }
         ensures { λ r. ⌜ (r ≡ allCounted self count) × (now (out .exit) ≡ over (ticksText self count) (now (out .entry))) ⌝ }
     {
-        let shared = self.shared;
+        let instrument = self.instrument;
         let mut line = [0u8; State::LEAST_OUTPUT];
-        let n = shared.stream_line(&mut line, 0);
+        let n = instrument.stream_line(&mut line, 0);
         let mut port = self.port;
         let mut written: usize = 0;
         let mut i: u8 = 0;
@@ -98,7 +98,7 @@ impl State {
                 written = append(out, written, &line[..n]);
             }
         }
-        finished(shared, port, 0, written)
+        finished(instrument, port, 0, written)
     }
 
     // Ticks of 100 ms, as many as count says.
@@ -122,11 +122,11 @@ impl State {
     pub fn power_cycle(self) -> Outcome
         ensures { λ r. ⌜ r ≡ cycleCall self ⌝ }
     {
-        let shared = self.shared;
-        let model = shared.model;
-        let saved = shared.saved;
+        let instrument = self.instrument;
+        let model = instrument.model;
+        let saved = instrument.saved;
         if self.admits(NO_OUTPUT, 0) {
-            return State::start(model, shared.serial, saved).with_answer(Answer::Accepted);
+            return State::start(model, instrument.serial, saved).with_answer(Answer::Accepted);
         }
         self.with_answer(Answer::BrokenState)
     }

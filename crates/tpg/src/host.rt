@@ -29,18 +29,18 @@ fn line_text(out: &mut [u8], at: usize, v: Verdict) -> usize
 }
 
 impl State {
-    // The bytes taken while there is room; the shared part is changed only where a line has ended.
+    // The bytes taken while there is room; the instrument is changed only where a line has ended.
     fn run(self, input: &[u8], out: &mut [u8]) -> Outcome
         ensures { λ r. ⌜ (r ≡ hosted self (now (input .entry)) (length (now (out .entry)))) × (now (out .exit) ≡ over (hostText self (now (input .entry)) (length (now (out .entry)))) (now (out .entry))) ⌝ }
     {
-        let mut shared = self.shared;
+        let mut instrument = self.instrument;
         let mut port = self.port;
         let mut taken: usize = 0;
         let mut written: usize = 0;
         while taken < input.len() {
             // nothing sent for a byte is longer (`event-length`): with this room no reply is cut
             if out.len() - written < State::LEAST_OUTPUT {
-                return finished(shared, port, taken, written);
+                return finished(instrument, port, taken, written);
             }
             let b = input[taken];
             if is_typed(b) {
@@ -60,9 +60,9 @@ impl State {
                     port = next;
                 }
                 taken += 1;
-                written = shared.reply(out, written, m, error);
+                written = instrument.reply(out, written, m, error);
             } else {
-                let model = shared.model;
+                let model = instrument.model;
                 let heard = port.byte(model, b);
                 let event = heard.event;
                 let next = heard.port;
@@ -72,15 +72,15 @@ impl State {
                     Event::Silent => {}
                     Event::Line(v) => {
                         written = line_text(out, written, v);
-                        shared = shared.heard(v);
+                        instrument = instrument.applied(v);
                     }
                     Event::Reply(m, error) => {
-                        written = shared.reply(out, written, m, error);
+                        written = instrument.reply(out, written, m, error);
                     }
                 }
             }
         }
-        finished(shared, port, taken, written)
+        finished(instrument, port, taken, written)
     }
 
     // Bytes from the host.

@@ -1,17 +1,17 @@
 // The box: its state, and the calls that take it by value and hand it back.
 ghost use mathlib.Core.Path.{_≡_};
 ghost use Rattle.tpg.specs.States.{stateWithin, startedBox};
+use instrument::Instrument;
 use ports::Port;
 use settings::Settings;
 use settings::model::Model;
-use shared::Shared;
 
 pub mod answers;
 pub mod calls;
 pub mod host;
 
 pub struct State {
-    pub shared: Shared,
+    pub instrument: Instrument,
     pub port: Port,
 }
 
@@ -23,18 +23,18 @@ impl State {
     pub fn is_within(self) -> bool
         ensures { λ r. ⌜ r ≡ stateWithin self ⌝ }
     {
-        let shared = self.shared;
+        let instrument = self.instrument;
         let port = self.port;
-        let model = shared.model;
-        shared.is_within() & port.is_within(model)
+        let model = instrument.model;
+        instrument.is_within() & port.is_within(model)
     }
 
     // A box that starts with a saved set.
     pub(crate) fn start(model: Model, serial: u32, saved: Settings) -> State
         ensures { λ r. ⌜ r ≡ startedBox model serial saved ⌝ }
     {
-        let shared = Shared::started(model, serial, saved);
+        let instrument = Instrument::started(model, serial, saved);
         let port = Port::fresh(model);
-        State { shared, port }
+        State { instrument, port }
     }
 }

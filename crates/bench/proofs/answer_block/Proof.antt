@@ -6,7 +6,7 @@ use borrow.Author.Needs.{needs}
 use denote.Ref.{now}
 use lib.ListN.{length}
 use lib.Seq.{length-take-le}
-use Rattle.bench.proofs.Writing.{Writing, start, text-inside, ended, step}
+use Rattle.bench.proofs.WholeBlocks.{Writing, start, text-inside, ended, step}
 use Rattle.bench.proofs.answer_block.Statement.{statement}
 use Rattle.bench.proofs.answer_block.Tie as tie
 

@@ -7,7 +7,7 @@ use lib.ListN.{length}
 use lib.Seq.{length-take-le}
 use Rattle.bench.specs.Walk.{mostKept}
 use Rattle.bench.proofs.Blocks.{blockSize}
-use Rattle.bench.proofs.Writing.{left-inside, written-few}
+use Rattle.bench.proofs.WholeBlocks.{left-inside, written-few}
 use Rattle.bench.proofs.main.Statement.{statement}
 use Rattle.bench.proofs.main.Tie as tie
 

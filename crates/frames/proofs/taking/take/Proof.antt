@@ -85,8 +85,8 @@ returns-4 c =
 power-cycle-requires : tie.Need-power-cycle-requires
 power-cycle-requires c κs = search needs
 
-told-of-requires : tie.Need-told-of-requires
-told-of-requires c κs = search needs
+frame-outcome-requires : tie.Need-frame-outcome-requires
+frame-outcome-requires c κs = search needs
 
 returns-5 : tie.Need-returns-5
 returns-5 c =
@@ -94,7 +94,7 @@ returns-5 c =
     let b = i .before .before .before .before .before in
     let a = b .before .before .before .args in
     handed-on _ _ (to-cycle (a .state) (now (a .frame)) _ (b .first-of .ensures) (i .before .before .before .before .if1 .left) (i .before .before .before .if2 .left) (i .before .before .if3 .left) (i .before .if4 .left) (i .if5 .taken)) _ _ _
-    (unsent _ _ (now (a .out)) refl (c .told-of .ensures ∙ ap toldCall (c .before .power-cycle .ensures) ∙ cycle-told (a .state)))
+    (unsent _ _ (now (a .out)) refl (c .frame-outcome .ensures ∙ ap toldCall (c .before .power-cycle .ensures) ∙ cycle-told (a .state)))
 
 no-frame-requires : tie.Need-no-frame-requires
 no-frame-requires c κs = search needs
@@ -125,7 +125,7 @@ take-spec =
     take-fresh-requires
     returns-4
     power-cycle-requires
-    told-of-requires
+    frame-outcome-requires
     returns-5
     no-frame-requires
     returns-6)

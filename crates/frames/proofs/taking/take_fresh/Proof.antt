@@ -3,7 +3,7 @@ use Prim.Native.Nat.{ℕ}
 use mathlib.Core.Path.{ap, _∙_}
 use borrow.Author.Needs.{needs}
 use Rattle.tpg.specs.Calls.{freshCall}
-use Rattle.frames.proofs.Calling.{fresh-made, fresh-kept}
+use Rattle.frames.proofs.Calling.{fresh-taken, fresh-kept}
 use Rattle.frames.proofs.taking.take_fresh.Statement.{statement}
 use Rattle.frames.proofs.taking.take_fresh.Tie as tie
 
@@ -24,7 +24,7 @@ returns c =
     let b = c .before .before .before in
     let k = b .before .before .before .args in
     c .silent .ensures
-    ∙ fresh-made (k .state) (k .byte) _ (b .before .fresh .ensures ∙ ap (λ (n : ℕ). freshCall n 0) (b .before .before .model-number .ensures)) _ (b .number .ensures) (c .before .before .if1 .taken)
+    ∙ fresh-taken (k .state) (k .byte) _ (b .before .fresh .ensures ∙ ap (λ (n : ℕ). freshCall n 0) (b .before .before .model-number .ensures)) _ (b .number .ensures) (c .before .before .if1 .taken)
 
 silent-requires-2 : tie.Need-silent-requires-2
 silent-requires-2 c κs = search needs

@@ -24,8 +24,8 @@ part-host-end c = search needs
 host-requires : tie.Need-host-requires
 host-requires c κs = search needs
 
-told-of-requires : tie.Need-told-of-requires
-told-of-requires c κs = search needs
+frame-outcome-requires : tie.Need-frame-outcome-requires
+frame-outcome-requires c κs = search needs
 
 same-length : tie.Need-same-length
 same-length c = search needs
@@ -39,7 +39,7 @@ returns c =
     let out : List ℕ = now (k .args .out) in
     let h = host-told s (drop 1 f) (length out) (omega (arith, length-drop 1 f, k .pre)) (omega (arith, k .pre)) in
     let e = b .host .ensures in
-    (c .told-of .ensures ∙ ap toldCall (e .0 ∙ ap (λ (l : List ℕ). hostCall s l (length out)) (behind f)) ∙ h .0, e .1 ∙ ap (λ (l : List ℕ). over (hostBytes s l (length out)) out) (behind f) ∙ ap (λ (x : List ℕ). over x out) (h .1))
+    (c .frame-outcome .ensures ∙ ap toldCall (e .0 ∙ ap (λ (l : List ℕ). hostCall s l (length out)) (behind f)) ∙ h .0, e .1 ∙ ap (λ (l : List ℕ). over (hostBytes s l (length out)) out) (behind f) ∙ ap (λ (x : List ℕ). over x out) (h .1))
 
 pub take-host-spec : {M : Type 1} → statement M
 take-host-spec =
@@ -49,6 +49,6 @@ take-host-spec =
     part-host-start
     part-host-end
     host-requires
-    told-of-requires
+    frame-outcome-requires
     same-length
     returns)

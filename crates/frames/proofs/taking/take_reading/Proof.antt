@@ -47,8 +47,8 @@ shared-slice-read-reading-3 c = search needs
 reading-requires : tie.Need-reading-requires
 reading-requires c κs = search needs
 
-told-of-requires : tie.Need-told-of-requires
-told-of-requires c κs = search needs
+frame-outcome-requires : tie.Need-frame-outcome-requires
+frame-outcome-requires c κs = search needs
 
 returns : tie.Need-returns
 returns c =
@@ -57,7 +57,7 @@ returns c =
     let a = k .before .before .before .args in
     let m = b .before .before .mantissa-of in
     let e = b .exponent-of in
-    c .told-of .ensures ∙ ap toldCall (c .before .reading .ensures)
+    c .frame-outcome .ensures ∙ ap toldCall (c .before .reading .ensures)
     ∙ reading-told (a .state) (now (a .frame)) _ _ (k .if1 .taken) (toZ-ofZ {w = w32} (record { sfits = m .ok }) ∙ m .ensures) (toZ-ofZ {w = w32} (record { sfits = e .ok }) ∙ e .ensures)
 
 no-frame-requires : tie.Need-no-frame-requires
@@ -85,7 +85,7 @@ take-reading-spec =
     shared-slice-read-reading-2
     shared-slice-read-reading-3
     reading-requires
-    told-of-requires
+    frame-outcome-requires
     returns
     no-frame-requires
     returns-2)

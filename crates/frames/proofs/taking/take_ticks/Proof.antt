@@ -14,8 +14,8 @@ use Rattle.frames.proofs.taking.take_ticks.Tie as tie
 ticks-requires : tie.Need-ticks-requires
 ticks-requires c κs = search needs
 
-told-of-requires : tie.Need-told-of-requires
-told-of-requires c κs = search needs
+frame-outcome-requires : tie.Need-frame-outcome-requires
+frame-outcome-requires c κs = search needs
 
 same-length : tie.Need-same-length
 same-length c = search needs
@@ -27,7 +27,7 @@ returns c =
     let out : List ℕ = now (k .args .out) in
     let h = ticks-told (k .args .state) (k .args .count) (length out) (omega (arith, k .pre, k .fits .count)) in
     let e = b .ticks .ensures in
-    (c .told-of .ensures ∙ ap toldCall (e .0) ∙ h .0, e .1 ∙ ap (λ (x : List ℕ). over x out) (h .1))
+    (c .frame-outcome .ensures ∙ ap toldCall (e .0) ∙ h .0, e .1 ∙ ap (λ (x : List ℕ). over x out) (h .1))
 
 pub take-ticks-spec : {M : Type 1} → statement M
-take-ticks-spec = tie.close (tie.spec ticks-requires told-of-requires same-length returns)
+take-ticks-spec = tie.close (tie.spec ticks-requires frame-outcome-requires same-length returns)

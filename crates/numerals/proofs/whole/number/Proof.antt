@@ -4,8 +4,8 @@ use mathlib.Core.Path.{_≡_, sym, ap, ap₂, _∙_}
 use mathlib.Core.Bool.{_&&_, and-eq-true-iff}
 use lib.Dec.{leb, eqb}
 use lib.ListN.{length, drop}
-use Rattle.ground.proofs.Cases.{ranged}
-use Rattle.numerals.specs.Digits.{lead, rest, count, value}
+use Rattle.ground.proofs.Cases.{in-range}
+use Rattle.numerals.specs.Runs.{lead, rest, lengthIn, value}
 use Rattle.numerals.specs.declared.whole.Numeral.the-variants.{Number}
 use Rattle.numerals.proofs.DigitRuns.{run-in, run-lead, run-all, bound-below}
 use Rattle.numerals.proofs.Wholes.{number-taken, number-left}
@@ -15,7 +15,7 @@ use Rattle.numerals.proofs.whole.number.Statement.{statement}
 use Rattle.numerals.proofs.whole.number.Tie as tie
 
 test : (c : tie.After-run) → let a = c .before .before .args in let x = drop (a .at) (a .s .now) in let e = c .run .result in
-    eqb e (length (a .s .now)) && (leb 1 (e - a .at) && leb (e - a .at) (a .most)) ≡ eqb (length (rest x)) 0 && count 1 (a .most) (lead x)
+    eqb e (length (a .s .now)) && (leb 1 (e - a .at) && leb (e - a .at) (a .most)) ≡ eqb (length (rest x)) 0 && lengthIn 1 (a .most) (lead x)
 test c =
     let a = c .before .before .args in
     let k : c .run .result - a .at ≡ length (lead (drop (a .at) (a .s .now))) = omega (arith, c .run .ensures) in
@@ -25,7 +25,7 @@ few : (c : tie.Then1) → (c .before .run .result - c .before .before .before .a
 few c =
     let a = c .before .before .before .args in
     let e = c .before .run .result in
-    omega (arith, ranged 1 (a .most) (e - a .at) (and-eq-true-iff (eqb e (length (a .s .now))) (leb 1 (e - a .at) && leb (e - a .at) (a .most)) .0 (c .if1 .taken) .1))
+    omega (arith, in-range 1 (a .most) (e - a .at) (and-eq-true-iff (eqb e (length (a .s .now))) (leb 1 (e - a .at) && leb (e - a .at) (a .most)) .0 (c .if1 .taken) .1))
 
 run-requires : tie.Need-run-requires
 run-requires c κs = search needs

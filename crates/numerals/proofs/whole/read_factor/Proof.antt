@@ -4,8 +4,8 @@ use mathlib.Core.Path.{_≡_, sym, ap, ap₂, _∙_}
 use mathlib.Core.Bool.{_&&_}
 use lib.Dec.{leb}
 use lib.ListN.{length}
-use Rattle.ground.proofs.Cases.{ranged}
-use Rattle.numerals.specs.Digits.{lead, count, value}
+use Rattle.ground.proofs.Cases.{in-range}
+use Rattle.numerals.specs.Runs.{lead, lengthIn, value}
 use Rattle.numerals.specs.Whole.{behindPoint, factorOf}
 use Rattle.numerals.proofs.DigitRuns.{run-in, run-lead, run-rest, bound-below}
 use Rattle.numerals.proofs.Wholes.{factor-taken, factor-left}
@@ -14,13 +14,13 @@ use native.Mathlib.Omega.{arith}
 use Rattle.numerals.proofs.whole.read_factor.Statement.{statement}
 use Rattle.numerals.proofs.whole.read_factor.Tie as tie
 
-test : (c : tie.After-run) → leb 1 (c .run .result) && leb (c .run .result) 2 ≡ count 1 2 (lead (c .before .part .result .now))
+test : (c : tie.After-run) → leb 1 (c .run .result) && leb (c .run .result) 2 ≡ lengthIn 1 2 (lead (c .before .part .result .now))
 test c =
     let k : c .run .result ≡ length (lead (c .before .part .result .now)) = omega (arith, c .run .ensures) in
     ap (λ (n : ℕ). leb 1 n && leb n 2) k
 
 few : (c : tie.Then1) → c .before .run .result - 0 ≤ 2
-few c = omega (arith, ranged 1 2 (c .before .run .result) (c .if1 .taken))
+few c = omega (arith, in-range 1 2 (c .before .run .result) (c .if1 .taken))
 
 small : (c : tie.After-value) → c .value .result ≤ 2277
 small c = omega (arith, bound-below (c .value .result) (c .before .before .run .result - 0) 2 (c .value .ensures .1) (few (c .before)))

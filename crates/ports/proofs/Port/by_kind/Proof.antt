@@ -7,8 +7,8 @@ use Rattle.ports.proofs.Port.by_kind.Tie as tie
 enum-told : tie.Need-enum-told
 enum-told c = search needs
 
-line-end-requires : tie.Need-line-end-requires
-line-end-requires c κs = search needs
+cr-heard-requires : tie.Need-cr-heard-requires
+cr-heard-requires c κs = search needs
 
 enum-told-2 : tie.Need-enum-told-2
 enum-told-2 c = search needs
@@ -51,7 +51,7 @@ quiet-requires-4 c κs = search needs
 
 returns : tie.Need-returns
 unfolding byKind
-returns c = rw (c .line-end .ensures, c .before .enum-told .given .1)
+returns c = rw (c .cr-heard .ensures, c .before .enum-told .given .1)
 
 returns-2 : tie.Need-returns-2
 unfolding byKind
@@ -78,7 +78,7 @@ by-kind-spec =
     tie.close
     (tie.spec
     enum-told
-    line-end-requires
+    cr-heard-requires
     enum-told-2
     quiet-requires
     enum-told-3

@@ -2,7 +2,7 @@
 use mathlib.Core.Path.{_≡_, sym, ap}
 use lib.ListN.{length}
 use lib.Seq.{set-out}
-use Rattle.settings.specs.Rows.{withFactors, number}
+use Rattle.settings.specs.Rows.{withFactors, firstNumber}
 use borrow.Author.Needs.{needs}
 use native.Mathlib.Omega.{arith}
 use Rattle.settings.proofs.Settings.store.Statement.{statement}
@@ -55,7 +55,7 @@ returns-3 c =
     let a = c .before .before .before .before .before .args in
     let m = c .before .before .before .m2 .given in
     let n : length (a .self .factors) ≡ 2 = search needs in
-    rw (m .1) (ap (withFactors (a .self)) (sym (set-out (a .self .factors) (m .0 .0) (number (a .r)) (omega arith))))
+    rw (m .1) (ap (withFactors (a .self)) (sym (set-out (a .self .factors) (m .0 .0) (firstNumber (a .r)) (omega arith))))
 
 returns-4 : tie.Need-returns-4
 returns-4 c = rw (c .enum-told .given .1)

@@ -4,7 +4,7 @@ use mathlib.Core.Path.{_≡_, sym, ap, _∙_}
 use mathlib.Core.List.{List, map}
 use lib.ListN.{length, length-map}
 use lib.Seq.{set-out}
-use Rattle.settings.specs.Rows.{withStored, withSwitching, number, switchingOf}
+use Rattle.settings.specs.Rows.{withStored, withSwitching, firstNumber, switchingOf}
 use borrow.Author.Needs.{needs}
 use native.Mathlib.Omega.{arith}
 use Rattle.settings.proofs.Settings.with_row.Statement.{statement}
@@ -80,7 +80,7 @@ returns-8 c =
     let a = c .before .before .before .before .before .before .before .args in
     let x = c .before .before .x2 .given in
     let n : length (a .self .stored) ≡ 9 = search needs in
-    rw (x .1) (ap (withStored (a .self)) (sym (set-out (a .self .stored) (x .0 .0) (number (a .r)) (omega arith))))
+    rw (x .1) (ap (withStored (a .self)) (sym (set-out (a .self .stored) (x .0 .0) (firstNumber (a .r)) (omega arith))))
 
 pub with-row-spec : {M : Type 1} → statement M
 with-row-spec =

@@ -7,18 +7,18 @@ use lib.ListN.{length, take, length-take}
 use denote.Ref.{now}
 use borrow.Author.Needs.{needs}
 use Rattle.text.specs.Page.{page, puts}
-use Rattle.shared.specs.Replies.{streamText}
-use Rattle.shared.proofs.Lengths.{stream-length}
+use Rattle.instrument.specs.Replies.{streamText}
+use Rattle.instrument.proofs.Lengths.{stream-length}
 use Rattle.tpg.proofs.Laying.{copied, fronted}
-use Rattle.tpg.proofs.Ticking.{Counting, start, due, idle, ended, same-length as length-kept}
+use Rattle.tpg.proofs.Ticking.{Counting, start, due, idle, ended, length-kept}
 use Rattle.tpg.proofs.State.advance.Statement.{statement}
 use Rattle.tpg.proofs.State.advance.Tie as tie
 
 abbrev Inv-loop : tie.InvT-loop
-Inv-loop count out₀ shared line n port₀ written₀ i₀ out port written i = (n ≤ 64) × (length line ≡ 64) × (take n line ≡ streamText shared) × Counting (record { shared = shared; port = port₀ }) count out₀ port out i written
+Inv-loop count out₀ instrument line n port₀ written₀ i₀ out port written i = (n ≤ 64) × (length line ≡ 64) × (take n line ≡ streamText instrument) × Counting (record { instrument = instrument; port = port₀ }) count out₀ port out i written
 
 abbrev μ-loop : tie.MeasureT-loop
-μ-loop count out₀ shared line n port₀ written₀ i₀ out port written i = count - i
+μ-loop count out₀ instrument line n port₀ written₀ i₀ out port written i = count - i
 
 slice-aggregate-stream-line : tie.Need-slice-aggregate-stream-line Inv-loop μ-loop
 slice-aggregate-stream-line c = search needs
@@ -30,8 +30,8 @@ loop-holds : tie.Need-loop-holds Inv-loop μ-loop
 loop-holds c =
     let k = c .before .before .stream-line in
     let a = c .before .before .before .before .before .before .args in
-    let text = streamText (a .self .shared) in
-    let short = stream-length (a .self .shared) in
+    let text = streamText (a .self .instrument) in
+    let short = stream-length (a .self .instrument) in
     let w = copied text _ (k .last .1 .0) 0 (k .result) (k .ensures) (omega (arith, short)) in
     (omega (arith, short, w .0), search needs, fronted text _ (k .last .1 .0) (k .result) (k .ensures) (omega (arith, short)), start (a .self) (a .count) (now (a .out)))
 

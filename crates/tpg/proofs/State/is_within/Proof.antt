@@ -1,4 +1,4 @@
--- The limits of the shared part and those of the port are together those of the state (`stateWithin`).
+-- The limits of the instrument and those of the port are together those of the state (`stateWithin`).
 use Rattle.tpg.specs.States.{stateWithin}
 use borrow.Author.Needs.{needs}
 use Rattle.tpg.proofs.State.is_within.Statement.{statement}

@@ -18,20 +18,20 @@ channels-requires c κs = search needs
 is-within-requires : tie.Need-is-within-requires
 is-within-requires c κs = search needs
 
-sub-take : tie.Need-sub-take
-sub-take c = leb-true _ _ (and-eq-true-iff _ _ .0 (c .before .before .if2 .taken) .0)
+sub-with-reading : tie.Need-sub-with-reading
+sub-with-reading c = leb-true _ _ (and-eq-true-iff _ _ .0 (c .before .before .if2 .taken) .0)
 
-take-requires : tie.Need-take-requires
-take-requires c κs = search needs
+with-reading-requires : tie.Need-with-reading-requires
+with-reading-requires c κs = search needs
 
 returns : tie.Need-returns
 returns c =
     let t = c .before .before .before in
     let i = t .before .before .before in
     let a = i .before .before .args in
-    let there : isChannel (a .self .shared .model) (a .channel) ≡ true = rw (← t .before .channels .ensures) (t .if2 .taken) in
+    let there : isChannel (a .self .instrument .model) (a .channel) ≡ true = rw (← t .before .channels .ensures) (t .if2 .taken) in
     rw (← toZ-ofZ (i .before .before .fits .mantissa), ← toZ-ofZ (i .before .before .fits .exponent))
-    (c .take .ensures ∙ accepted (a .self) (a .channel) _ (sym (i .admits .ensures ∙ without-output (a .self)) ∙ t .before .before .if1 .taken) there
+    (c .with-reading .ensures ∙ accepted (a .self) (a .channel) _ (sym (i .admits .ensures ∙ without-output (a .self)) ∙ t .before .before .if1 .taken) there
     (sym (c .before .before .is-within .ensures) ∙ c .before .if3 .taken))
 
 with-answer-requires : tie.Need-with-answer-requires
@@ -42,7 +42,7 @@ returns-2 c =
     let t = c .before .before .before in
     let i = t .before .before .before in
     let a = i .before .before .args in
-    let there : isChannel (a .self .shared .model) (a .channel) ≡ true = rw (← t .before .channels .ensures) (t .if2 .taken) in
+    let there : isChannel (a .self .instrument .model) (a .channel) ≡ true = rw (← t .before .channels .ensures) (t .if2 .taken) in
     rw (← toZ-ofZ (i .before .before .fits .mantissa), ← toZ-ofZ (i .before .before .fits .exponent))
     (c .with-answer .ensures ∙ outside (a .self) (a .channel) _ (sym (i .admits .ensures ∙ without-output (a .self)) ∙ t .before .before .if1 .taken) there
     (sym (c .before .before .is-within .ensures) ∙ c .before .if3 .left))
@@ -55,7 +55,7 @@ returns-3 c =
     let t = c .before in
     let i = t .before .before .before in
     let a = i .before .before .args in
-    let absent : isChannel (a .self .shared .model) (a .channel) ≡ false = rw (← t .before .channels .ensures) (t .if2 .left) in
+    let absent : isChannel (a .self .instrument .model) (a .channel) ≡ false = rw (← t .before .channels .ensures) (t .if2 .left) in
     c .with-answer2 .ensures ∙ elsewhere (a .self) (a .channel) _ (sym (i .admits .ensures ∙ without-output (a .self)) ∙ t .before .before .if1 .taken) absent
 
 with-answer-requires-3 : tie.Need-with-answer-requires-3
@@ -73,8 +73,8 @@ reading-spec =
     admits-requires
     channels-requires
     is-within-requires
-    sub-take
-    take-requires
+    sub-with-reading
+    with-reading-requires
     returns
     with-answer-requires
     returns-2

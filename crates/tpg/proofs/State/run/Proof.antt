@@ -10,16 +10,16 @@ use Rattle.ports.specs.Hearing.{asked}
 use Rattle.ports.proofs.Characters.{enq-heard, repeats-stays}
 use Rattle.tpg.specs.Answers.{leastOutput}
 use Rattle.tpg.specs.Steps.{eventText}
-use Rattle.tpg.proofs.Runs.{Going, start, silent, answered, typed, farther, ended, same-length as length-kept, taken-full, taken-end}
+use Rattle.tpg.proofs.HostRun.{Going, start, silent, answered, typed, farther, ended, length-kept, taken-full, taken-end}
 use Rattle.tpg.proofs.State.run.Statement.{statement}
 use Rattle.tpg.proofs.State.run.Tie as tie
 
 abbrev Inv-loop : tie.InvT-loop
-Inv-loop input out₀ shared₀ port₀ taken₀ written₀ out shared port taken written =
-    Going (record { shared = shared₀; port = port₀ }) input out₀ shared port out taken written
+Inv-loop input out₀ shared₀ port₀ taken₀ written₀ out instrument port taken written =
+    Going (record { instrument = shared₀; port = port₀ }) input out₀ instrument port out taken written
 
 abbrev μ-loop : tie.MeasureT-loop
-μ-loop input out₀ shared₀ port₀ taken₀ written₀ out shared port taken written = length input - taken
+μ-loop input out₀ shared₀ port₀ taken₀ written₀ out instrument port taken written = length input - taken
 
 loop-holds : tie.Need-loop-holds Inv-loop μ-loop
 loop-holds c =
@@ -124,8 +124,8 @@ enum-known-event c = search needs
 line-text-requires : tie.Need-line-text-requires Inv-loop μ-loop
 line-text-requires c κs = search needs
 
-heard-requires : tie.Need-heard-requires Inv-loop μ-loop
-heard-requires c κs = search needs
+applied-requires : tie.Need-applied-requires Inv-loop μ-loop
+applied-requires c κs = search needs
 
 loop-less-4 : tie.Need-loop-less-4 Inv-loop μ-loop
 loop-less-4 c = omega (arith, c .before .before .before .before .before .before .before .before .before .before .before .before .before .before .before .loop-test .taken)
@@ -138,7 +138,7 @@ loop-again-4 c =
     let b = v .before .before .before in
     let d = b .before .before .before .before .before in
     answered (d .before .before .loop .inv) (b .byte .result) (d .before .loop-test .taken) (d .if1 .left) (b .byte .ensures) _ _ _ _
-    (v .event .given .1) (c .heard .ensures) (k .line-text .ensures)
+    (v .event .given .1) (c .applied .ensures) (k .line-text .ensures)
 
 enum-known-event-2 : tie.Need-enum-known-event-2 Inv-loop μ-loop
 enum-known-event-2 c = search needs
@@ -202,7 +202,7 @@ run-spec =
     loop-again-3
     enum-known-event
     line-text-requires
-    heard-requires
+    applied-requires
     loop-less-4
     loop-again-4
     enum-known-event-2

@@ -1,4 +1,4 @@
--- The shared part started with the saved set, and a fresh port.
+-- The instrument started with the saved set, and a fresh port.
 use borrow.Author.Needs.{needs}
 use Rattle.tpg.proofs.State.start.Statement.{statement}
 use Rattle.tpg.proofs.State.start.Tie as tie

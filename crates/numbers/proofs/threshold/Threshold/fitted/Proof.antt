@@ -3,7 +3,7 @@ use mathlib.Core.Path.{_≡_, sym, ap, _∙_}
 use mir.Facts.{toZ-ofZ}
 use Rattle.numbers.specs.Numbers.{withinStops}
 use Rattle.numbers.specs.Rounding.{rounded}
-use Rattle.numbers.specs.declared.threshold.Fitted.the-variants.{Within}
+use Rattle.numbers.specs.declared.threshold.Fitted.the-variants.{Fits}
 use Rattle.numbers.proofs.Signed.{between-near}
 use Rattle.numbers.proofs.Stops.{fitted-zero, fitted-within, fitted-out, fitted-far}
 use borrow.Author.Needs.{needs}
@@ -30,7 +30,7 @@ returns-2 : tie.Need-returns-2
 returns-2 c =
     let r = c .before .before in
     let a = r .before .before .before .args in
-    ap Within (is-rounded r)
+    ap Fits (is-rounded r)
     ∙ fitted-within (a .n) (a .x) (r .before .before .if1 .left) (sym (ap withinStops (is-rounded r)) ∙ sym (c .before .is-within .ensures) ∙ c .if3 .taken)
 
 returns-3 : tie.Need-returns-3

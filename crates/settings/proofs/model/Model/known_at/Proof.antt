@@ -1,6 +1,6 @@
 -- The first seventeen are those of the sheet (`known-sheet`), and behind them stand the others (`known-others`).
 use mathlib.Core.Path.{ap, _∙_}
-use Rattle.settings.specs.declared.mnemonic.Mnemonic.the-variants.{Setting as Of}
+use Rattle.settings.specs.declared.mnemonic.Mnemonic.the-variants.{OfSetting}
 use Rattle.settings.proofs.Names.{known-sheet, known-others}
 use borrow.Author.Needs.{needs}
 use Rattle.settings.proofs.model.Model.known_at.Statement.{statement}
@@ -10,7 +10,7 @@ sheet-at-requires : tie.Need-sheet-at-requires
 sheet-at-requires c κs = search needs
 
 returns : tie.Need-returns
-returns c = let a = c .before .before .args in ap Of (c .sheet-at .ensures) ∙ known-sheet (a .self) (a .i) (c .before .if1 .taken)
+returns c = let a = c .before .before .args in ap OfSetting (c .sheet-at .ensures) ∙ known-sheet (a .self) (a .i) (c .before .if1 .taken)
 
 mul-result : tie.Need-mul-result
 mul-result c = search needs

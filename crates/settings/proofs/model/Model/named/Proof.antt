@@ -5,7 +5,7 @@ use mathlib.Core.List.{List, [], _∷_}
 use lib.ListN.{length, drop}
 use Rattle.settings.specs.Mnemonics.{known, knownAt, name, same, recognised, found}
 use Rattle.settings.specs.declared.mnemonic.Setting.the-variants.{Uni}
-use Rattle.settings.specs.declared.mnemonic.Mnemonic.the-variants.{Setting as Of}
+use Rattle.settings.specs.declared.mnemonic.Mnemonic.the-variants.{OfSetting}
 use Rattle.settings.specs.declared.mnemonic.Named.the-variants.{Known}
 use Rattle.settings.proofs.Names.{spelt, found-hit, found-miss, found-end, known-length}
 use borrow.Author.Needs.{needs}
@@ -41,7 +41,7 @@ returns c =
     let a = c .before .before .before .before .before .before .args in
     let w : List ℕ = a .a ∷ a .b ∷ a .c ∷ [] in
     let n : l .i < length (known (a .self)) = omega (arith, known-length (a .self)) in
-    ap Known (c .known-at .ensures) ∙ sym (found-hit w (known (a .self)) (l .i) (Of Uni) n (spelled (c .before .before) ∙ c .before .if1 .taken)) ∙ l .inv .1
+    ap Known (c .known-at .ensures) ∙ sym (found-hit w (known (a .self)) (l .i) (OfSetting Uni) n (spelled (c .before .before) ∙ c .before .if1 .taken)) ∙ l .inv .1
 
 add-i : tie.Need-add-i Inv-loop μ-loop
 add-i c = search needs
@@ -55,14 +55,14 @@ loop-again c =
     let a = c .before .before .before .before .before .args in
     let w : List ℕ = a .a ∷ a .b ∷ a .c ∷ [] in
     let n : l .i < length (known (a .self)) = omega (arith, known-length (a .self)) in
-    (omega arith, sym (found-miss w (known (a .self)) (l .i) (Of Uni) n (spelled (c .before) ∙ c .if1 .left)) ∙ l .inv .1)
+    (omega arith, sym (found-miss w (known (a .self)) (l .i) (OfSetting Uni) n (spelled (c .before) ∙ c .if1 .left)) ∙ l .inv .1)
 
 returns-2 : tie.Need-returns-2 Inv-loop μ-loop
 returns-2 c =
     let l = c .before .loop in
     let a = c .before .before .args in
     let n : length (known (a .self)) ≤ l .i = omega (arith, known-length (a .self)) in
-    sym (found-end (a .a ∷ a .b ∷ a .c ∷ []) (known (a .self)) (l .i) (Of Uni) n) ∙ l .inv .1
+    sym (found-end (a .a ∷ a .b ∷ a .c ∷ []) (known (a .self)) (l .i) (OfSetting Uni) n) ∙ l .inv .1
 
 pub named-spec : {M : Type 1} → statement M
 named-spec =

@@ -1,0 +1,198 @@
+-- The starred examples of 01, "Lines on either side", as one statement over a list of them; and 01's example, its other examples and its wrong readings
+-- as another. Both are worked out from the definitions, through the calls on a fresh box.
+use Prim.Native.Nat.{ℕ}
+use Prim.Native.String.{String}
+use mathlib.Core.Path.{_≡_, refl}
+use mathlib.Core.List.{List, [], _∷_, _++_, map}
+use lib.IntN.{ℤ, pos, negsuc}
+use lib.ListN.{replicate}
+use Rattle.text.specs.Text.{ascii}
+use Rattle.text.specs.Digits.{bare}
+use Rattle.numbers.specs.Numbers.{less, isBelow, isAbove}
+use Rattle.numbers.specs.Rounding.{climbWithin, five, power, rounded, fittedTo, scaledBy}
+use Rattle.numerals.specs.Runs.{lead, rest, headIs, value}
+use Rattle.numerals.specs.Whole.{numberOf, behindPoint, factorOf}
+use Rattle.numerals.specs.Exponential.{afterPlus, afterSign, powerOf, composed, fraction, afterFraction, thresholdOf}
+use Rattle.numerals.specs.Writing.{scientific}
+use Rattle.gauges.specs.Readings.{withinLimits, noReading}
+use Rattle.gauges.specs.Shown.{switched}
+use Rattle.ground.specs.Members.{every}
+use Rattle.settings.specs.Mnemonics.{known, same, found, recognised, answers}
+use Rattle.settings.specs.Kinds.{storedKinds}
+use Rattle.settings.specs.Limits.{within}
+use Rattle.settings.specs.declared.model.Model.the-variants.{Tpg361, Tpg362}
+use Rattle.lines.specs.Splitting.{fields}
+use Rattle.lines.specs.Fields.{limited}
+use Rattle.lines.specs.Judging.{fieldsRead, formed, valued, withFields, judged}
+use Rattle.lines.specs.Replies.{settingText}
+use Rattle.text.specs.Control.{crLf}
+use Rattle.ports.specs.Line.{grown}
+use Rattle.ports.specs.Stream.{ticked}
+use Rattle.ports.specs.Hearing.{kindOf, concluded, asked, byKind, heard}
+use Rattle.ports.specs.Limits.{lineWithin, portWithin}
+use Rattle.instrument.specs.Events.{measured, written}
+use Rattle.instrument.specs.Limits.{instrumentWithin}
+use Rattle.instrument.specs.Replies.{eachChannel, replyText, streamText}
+use Rattle.tpg.specs.States.{stateWithin, freshBox}
+use Rattle.tpg.specs.Steps.{eventText, next, sent, after, said, taken}
+use Rattle.tpg.specs.Calls.{admits, roomed, roomedBytes, hosted, tickText, counted, afterTicks, ticksText, readingCall, cycleCall}
+use Rattle.tpg.specs.declared.State.{State}
+use Rattle.demands.specs.Calls.{Call, host, reading, ticks, cycle, outcome, callBytes}
+use Rattle.demands.specs.Wire.{ackLine, nakLine, byCr, byCrLf, ended, enquiries}
+
+-- all that calls send, one after the other
+abbrev pub sends : State → List Call → List ℕ
+sends s [] = []
+sends s (c ∷ cs) = callBytes s c ++ sends (outcome s c .state) cs
+
+-- ---- calls
+
+-- an output that is long enough for each of them
+abbrev room : ℕ
+room = 2000
+
+-- host bytes as they are
+abbrev raw : List ℕ → Call
+raw bs = host bs room
+
+-- a line, one with CR LF, and one with an ENQ behind it
+abbrev line : String → Call
+line s = raw (ended byCr (ascii s))
+
+abbrev windows : String → Call
+windows s = raw (ended byCrLf (ascii s))
+
+abbrev asking : List ℕ → List ℕ
+asking l = ended byCr l ++ enquiries 1
+
+abbrev asks : String → Call
+asks s = raw (asking (ascii s))
+
+-- an ENQ alone
+abbrev enq : Call
+enq = raw (enquiries 1)
+
+-- so many ticks
+abbrev waits : ℕ → Call
+waits n = ticks n room
+
+-- a good reading of a linear gauge, kind 5, on a channel
+abbrev linear : ℕ → ℤ → ℤ → Call
+linear channel m e = reading channel (record { kind = 5; status = 0; value = record { mantissa = m; exponent = e } })
+
+-- ---- examples
+
+abbrev reply : String → List ℕ
+reply s = ascii s ++ crLf
+
+-- a line that is refused, and the error word that the ENQ behind it is sent
+abbrev refused : String → List ℕ
+refused word = nakLine ++ reply word
+
+pub record Example : Type 0 where
+  pub box : State
+  pub calls : List Call
+  pub got : List ℕ
+
+abbrev on362 : List Call → List ℕ → Example
+on362 cs got = record { box = freshBox Tpg362 44990000; calls = cs; got = got }
+
+abbrev on361 : List Call → List ℕ → Example
+on361 cs got = record { box = freshBox Tpg361 0; calls = cs; got = got }
+
+-- each box sends what its row says
+abbrev pub Hold : List Example → Type 0
+Hold rs = map (λ (r : Example). sends (r .box) (r .calls)) rs ≡ map (λ (r : Example). r .got) rs
+
+-- ---- the starred examples
+
+-- a threshold in both places of SP1, and what the ENQ behind it is sent
+abbrev threshold : String → List ℕ → Example
+threshold t got = on362 (raw (asking (ascii "SP1,1," ++ ascii t ++ ascii "," ++ ascii t)) ∷ []) got
+
+abbrev held : String → List ℕ
+held t = ackLine ++ ascii "1," ++ ascii t ++ ascii "," ++ reply t
+
+-- what PR1 sends in Torr after a call or none
+abbrev torr : List Call → String → Example
+torr cs t = on362 (line "UNI,1" ∷ (cs ++ asks "PR1" ∷ [])) (ackLine ++ ackLine ++ reply t)
+
+abbrev pub starred : List Example
+starred =
+    threshold "6.80E-3" (held "6.8000E-03")
+    ∷ threshold "123456" (held "1.2346E+05")
+    ∷ threshold "999994" (held "9.9999E+05")
+    ∷ threshold "999995" (held "1.0000E+06")
+    ∷ threshold "9.99995E-21" (held "1.0000E-20")
+    ∷ threshold "9.9999E-21" (refused "0010")
+    ∷ threshold "9.99994E20" (held "9.9999E+20")
+    ∷ threshold "9.99995E20" (refused "0010")
+    ∷ threshold "0.0" (refused "0010")
+    ∷ threshold "." (refused "0001")
+    ∷ threshold "5." (held "5.0000E+00")
+    ∷ on362 (asks "CAL,0.099,1" ∷ []) (refused "0010")
+    ∷ on362 (asks "CAL,0.1,10" ∷ []) (ackLine ++ reply "0.100,10.000")
+    ∷ on362 (asks "FIL,,2" ∷ []) (refused "0001")
+    ∷ on362 (asks "FIL,4,2" ∷ []) (refused "0010")
+    ∷ on362 (asks "FIL,4," ∷ []) (refused "0001")
+    -- "+1.0000E+03 hPa, kind 5, in Torr"
+    ∷ torr (linear 1 (pos 10000) (pos 3) ∷ []) "0,+7.5006E+02"
+    -- "mantissa 13332, 13333, exponent 0, kind 5, Torr"
+    ∷ torr (linear 1 (pos 13332) (pos 0) ∷ []) "0,+9.9998E-01"
+    ∷ torr (linear 1 (pos 13333) (pos 0) ∷ []) "0,+1.0001E+00"
+    -- "status 5 in Torr": a channel without a reading
+    ∷ torr [] "5,+1.5001E-02"
+    ∷ []
+
+pub starred-hold : Hold starred
+unfolding bare climbWithin five power rounded fittedTo scaledBy lead rest headIs value numberOf behindPoint factorOf afterPlus afterSign powerOf composed fraction afterFraction thresholdOf scientific withinLimits every known same found recognised answers storedKinds within fields limited fieldsRead formed valued withFields judged settingText grown kindOf concluded asked byKind heard lineWithin portWithin measured written instrumentWithin replyText stateWithin eventText next sent after said taken admits roomed roomedBytes hosted readingCall
+starred-hold = refl
+
+-- ---- 01's example, its other examples and its wrong readings
+
+abbrev pub examples : List Example
+examples =
+    -- 01's example: the stream of power-on, a reply, a refusal, and the stream stopped by the bytes
+    on362 (waits 10 ∷ asks "FIL" ∷ asks "FOL,1,2" ∷ waits 10 ∷ [])
+    (reply "5,+2.0000E-02,5,+2.0000E-02" ++ ackLine ++ reply "2,2" ++ refused "0001")
+    -- "Letting the LF of CR LF stop the stream its own COM line began."
+    ∷ on362 (windows "COM,1" ∷ waits 10 ∷ []) (ackLine ++ reply "5,+2.0000E-02,5,+2.0000E-02")
+    ∷ on362 (windows "COM,1" ∷ raw (10 ∷ []) ∷ waits 10 ∷ []) ackLine
+    -- a refused COM starts nothing, and the first line comes a whole interval later
+    ∷ on362 (line "COM,3" ∷ waits 10 ∷ enq ∷ []) (refused "0010")
+    ∷ on362 (waits 9 ∷ line "COM" ∷ waits 9 ∷ []) ackLine
+    -- "Storing fields while checking them: SP1,2,1E-3, then stores an assignment."
+    ∷ on362 (line "SP1,2,1E-3," ∷ asks "SP1" ∷ []) (nakLine ++ ackLine ++ reply "0,1.0000E-09,9.0000E-07")
+    -- "Sending a CF1 reply back as CF1: two fields on a 362, refused."
+    ∷ on362 (asks "CF1" ∷ line "CF1,1.000,1.000" ∷ asks "CF2,2.5" ∷ []) (ackLine ++ reply "1.000,1.000" ++ nakLine ++ ackLine ++ reply "1.000,2.500")
+    -- "Keeping the old selection after a NAK, so ENQ answers an earlier question."
+    ∷ on362 (line "UNI" ∷ asks "UNI,9" ∷ enq ∷ []) (ackLine ++ refused "0010" ++ reply "0000")
+    -- "Naming a linear gauge CMR": the list says CMR/APR
+    ∷ on362 (linear 2 (pos 10000) (pos 0) ∷ asks "TID" ∷ []) (ackLine ++ reply "noSEn,CMR/APR")
+    -- digits gather until the word is sent, here through ERR; ENQ on a bad line sends it too, and not the selection
+    ∷ on362 (line "FOL" ∷ line "UNI,5" ∷ asks "ERR" ∷ enq ∷ []) (nakLine ++ nakLine ++ ackLine ++ reply "0011" ++ reply "0000")
+    ∷ on362 (line "UNI" ∷ raw (1 ∷ 5 ∷ 5 ∷ []) ∷ []) (ackLine ++ reply "0000" ++ reply "0000")
+    -- "80 / 81 characters": CF2 on a 361 is 0100 before its fields are looked at, and a bad line is 0001
+    ∷ on361 (raw (asking (ascii "CF2," ++ replicate 76 48)) ∷ []) (refused "0100")
+    ∷ on361 (raw (asking (ascii "CF2," ++ replicate 77 48)) ∷ []) (refused "0001")
+    -- spaces are not counted, ETX empties a bad line, and ENQ on a full one drops it
+    ∷ on362 (raw (replicate 81 32) ∷ asks "F I L" ∷ []) (ackLine ++ reply "2,2")
+    ∷ on362 (raw (replicate 81 65 ++ 3 ∷ []) ∷ asks "FIL" ∷ []) (ackLine ++ reply "2,2")
+    ∷ on362 (asks "FIL" ∷ raw (replicate 80 48 ++ 5 ∷ []) ∷ []) (ackLine ++ reply "2,2" ++ reply "0000")
+    -- switching: below the lower threshold on, between no change, above the upper off; on again, and a status that is not 0 off
+    ∷ on362 (line "SP1,2,1E-3,1E-2" ∷ linear 1 (pos 99999) (negsuc 3) ∷ asks "SPS" ∷ linear 1 (pos 50000) (negsuc 2) ∷ enq
+    ∷ linear 1 (pos 10001) (negsuc 1) ∷ enq ∷ linear 1 (pos 99999) (negsuc 3) ∷ enq ∷ reading 1 noReading ∷ enq ∷ [])
+    (ackLine ++ ackLine ++ reply "1,0,0,0" ++ reply "1,0,0,0" ++ reply "0,0,0,0" ++ reply "1,0,0,0" ++ reply "0,0,0,0")
+    ∷ on362 (line "SP2,1,1,2" ∷ asks "SPS" ∷ []) (ackLine ++ ackLine ++ reply "0,1,0,0")
+    -- SAV keeps what a power cycle takes back; a power cycle forgets readings
+    ∷ on362 (line "UNI,1" ∷ line "SAV,1" ∷ line "UNI,2" ∷ linear 1 (pos 10000) (pos 3) ∷ asks "PR1" ∷ cycle ∷ asks "UNI" ∷ asks "PR1" ∷ [])
+    (ackLine ++ ackLine ++ ackLine ++ ackLine ++ reply "0,+1.0000E+05" ++ ackLine ++ reply "1" ++ ackLine ++ reply "5,+1.5001E-02")
+    -- AYT, and what a 361 has not
+    ∷ on362 (asks "AYT" ∷ []) (ackLine ++ reply "TPG362,PTG28290,44990000,010100,010100")
+    ∷ on361 (asks "AYT" ∷ asks "PRX" ∷ asks "PR2" ∷ asks "CF2" ∷ asks "ERA,3" ∷ [])
+    (ackLine ++ reply "TPG361,PTG28040,00000000,010100,010100" ++ ackLine ++ reply "5,+2.0000E-02" ++ refused "0100" ++ refused "0100" ++ refused "0100")
+    ∷ []
+
+pub examples-hold : Hold examples
+unfolding bare less isBelow isAbove climbWithin five power rounded fittedTo scaledBy lead rest headIs value numberOf behindPoint factorOf afterPlus afterSign powerOf composed fraction afterFraction thresholdOf scientific withinLimits switched every known same found recognised answers storedKinds within fields limited fieldsRead formed valued withFields judged settingText grown ticked kindOf concluded asked byKind heard lineWithin portWithin measured written instrumentWithin eachChannel replyText streamText stateWithin eventText next sent after said taken admits roomed roomedBytes hosted tickText counted afterTicks ticksText readingCall cycleCall
+examples-hold = refl

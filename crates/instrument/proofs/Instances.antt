@@ -1,0 +1,115 @@
+-- What the definitions give where docs/promises/ names a wrong answer.
+use Prim.Native.Nat.{ℕ, _≤_, _<_}
+use mathlib.Core.Path.{_≡_, refl}
+use mathlib.Core.List.{List, [], _∷_, _++_, map}
+use mathlib.Core.Bool.{Bool, true, false, and-eq-true-iff}
+use native.Mathlib.Omega.{arith}
+use borrow.Author.Tests.{eqb-true, lt-leb}
+use lib.Dec.{eqb}
+use lib.ListN.{getD}
+use lib.Seq.{getD-set-same}
+use Rattle.text.specs.Text.{ascii}
+use Rattle.gauges.specs.Readings.{noReading, withinLimits}
+use Rattle.gauges.specs.Shown.{shownOf}
+use Rattle.gauges.specs.declared.reading.Reading.{Reading}
+use Rattle.settings.specs.Models.{startsOn, defaults}
+use Rattle.settings.specs.Rows.{firstNumber}
+use Rattle.settings.specs.Limits.{within}
+use Rattle.settings.specs.declared.model.Model.{Model}
+use Rattle.settings.specs.declared.model.Model.the-variants.{Tpg361, Tpg362}
+use Rattle.settings.specs.declared.mnemonic.Setting.the-variants.{Uni, Sp}
+use Rattle.settings.specs.declared.mnemonic.Query.the-variants.{Sps, Prx, Ayt}
+use Rattle.settings.specs.declared.mnemonic.Mnemonic.the-variants.{OfSetting, OfQuery, Sav}
+use Rattle.settings.specs.declared.rows.Row.{Row}
+use Rattle.settings.specs.declared.Settings.{Settings}
+use Rattle.text.specs.Digits.{binary}
+use Rattle.text.specs.Control.{crLf}
+use Rattle.lines.specs.declared.word.Word.{Word}
+use Rattle.lines.specs.declared.verdict.Verdict.the-variants.{Writes}
+use Rattle.instrument.specs.Events.{functionAt, isOn, started, following, measured, written, applied}
+use Rattle.instrument.specs.Limits.{instrumentWithin, InstrumentShaped}
+use Rattle.instrument.specs.Replies.{shownAt, eachChannel, replyText, streamText}
+use Rattle.instrument.specs.declared.Instrument.{Instrument}
+use Rattle.instrument.proofs.InstrumentLimits.{four-at, parts}
+
+-- ---- power-on and a reading
+
+-- each switch starts by its own function's assignment
+pub started-switch : (model : Model) (serial : ℕ) (saved : Settings) (i : ℕ) → i ≤ 3
+    → isOn (started model serial saved) i ≡ startsOn model (functionAt saved i .assignment)
+started-switch model serial saved i h = four-at (λ i. startsOn model (functionAt saved i .assignment)) i h
+
+module _ (s : Instrument) (channel : ℕ) (r : Reading) where
+  pub measured-held : InstrumentShaped s → channel < 2 → getD (measured s channel r .readings) channel noReading ≡ r
+  unfolding measured
+  measured-held t h = getD-set-same (s .readings) channel r noReading (omega (arith, t .readings))
+
+  -- each switch is moved by its own function
+  pub measured-switch : (i : ℕ) → i ≤ 3
+      → isOn (measured s channel r) i ≡ following (s .model) channel (shownOf r (s .settings .unit)) (functionAt (s .settings) i) (isOn s i)
+  unfolding measured
+  measured-switch i h = four-at (λ i. following (s .model) channel (shownOf r (s .settings .unit)) (functionAt (s .settings) i) (isOn s i)) i h
+
+-- ---- a line
+
+module _ (s : Instrument) (r : Row) where
+  pub unit-stored : applied s (Writes (OfSetting Uni) r) .settings .unit ≡ firstNumber r
+  unfolding written
+  unit-stored = refl
+
+  pub sav-zero : firstNumber r ≡ 0 → applied s (Writes Sav r) .saved ≡ defaults (s .model)
+  unfolding written
+  sav-zero e = rw e
+
+  pub assigned-on : (k : ℕ) → InstrumentShaped s → k ≤ 3 → firstNumber r ≡ 1 → isOn (applied s (Writes (OfSetting (Sp k)) r)) k ≡ true
+  unfolding written
+  assigned-on k t h e = rw (getD-set-same (s .switches) k (startsOn (s .model) (firstNumber r)) false (omega (arith, t .switches)), e)
+
+-- ---- replies
+
+-- the serial number has eight digits, a short one too
+module _ (saved : Settings) (error : Word) where
+  abbrev identity : Model → ℕ → List ℕ
+  identity model serial = replyText (started model serial saved) error (OfQuery Ayt)
+
+  pub identities : identity Tpg362 44990000 ∷ identity Tpg361 7 ∷ []
+      ≡ map (λ (t : List ℕ). t ++ crLf) (ascii "TPG362,PTG28290,44990000,010100,010100" ∷ ascii "TPG361,PTG28040,00000007,010100,010100" ∷ [])
+  unfolding replyText
+  identities = refl
+
+module _ (s : Instrument) where
+  pub switches-reply : (error : Word) (a b c d : Bool) → s .switches ≡ a ∷ b ∷ c ∷ d ∷ []
+      → replyText s error (OfQuery Sps) ≡ binary a ∷ 44 ∷ binary b ∷ 44 ∷ binary c ∷ 44 ∷ binary d ∷ crLf
+  unfolding replyText
+  switches-reply error a b c d e = rw e
+
+  pub prx-as-stream : (error : Word) → replyText s error (OfQuery Prx) ≡ streamText s
+  unfolding replyText streamText
+  prx-as-stream error = refl
+
+  abbrev shown : ℕ → List ℕ
+  shown = shownAt (s .settings .unit) (s .readings)
+
+  pub stream-of-two : s .model ≡ Tpg362 → streamText s ≡ (shown 0 ++ 44 ∷ shown 1) ++ crLf
+  unfolding streamText eachChannel
+  stream-of-two e = rw e
+
+  pub stream-of-one : s .model ≡ Tpg361 → streamText s ≡ shown 0 ++ crLf
+  unfolding streamText eachChannel
+  stream-of-one e = rw e
+
+-- ---- the limits
+
+module _ (s : Instrument) where
+  pub saved-within : instrumentWithin s ≡ true → within (s .model) (s .saved) ≡ true
+  saved-within w = parts s w .saved
+
+  pub second-absent : s .model ≡ Tpg361 → instrumentWithin s ≡ true → getD (s .readings) 1 noReading .kind ≡ 6
+  second-absent e w =
+      let r = getD (s .readings) 1 noReading in
+      let h : eqb (r .kind) 6 ≡ true = and-eq-true-iff (withinLimits r) (eqb (r .kind) 6) .0 (rw e at (parts s w .readings 1 (omega arith))) .1 in
+      eqb-true (r .kind) 6 h
+
+  pub long-serial : 99999999 < s .serial → instrumentWithin s ≡ false
+  unfolding instrumentWithin
+  long-serial h = rw (lt-leb (s .serial) 99999999 h)

@@ -1,0 +1,4 @@
+pub mod Channels
+pub mod Lengths
+pub mod InstrumentLimits
+pub mod Instances

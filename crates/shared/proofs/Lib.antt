@@ -1,4 +1,0 @@
-pub mod Channels
-pub mod Lengths
-pub mod Kept
-pub mod Instances

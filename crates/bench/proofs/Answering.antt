@@ -10,8 +10,8 @@ use lib.ListN.{length, take, drop, length-append, length-drop, drop-of-length-le
 use lib.Seq.{length-take-le, take-all, drop-drop}
 use Rattle.text.specs.Spans.{until}
 use Rattle.tpg.specs.Steps.{over}
-use Rattle.tpg.proofs.Laying.{laidAt, laid-length, laid-more, laid-nothing}
 use Rattle.tpg.specs.declared.State.{State}
+use Rattle.tpg.proofs.Laying.{laidAt, laid-length, laid-more, laid-nothing}
 use Rattle.frames.specs.Frames.{lineReply, outputLine, longestLine, answerCall, answerLine}
 use Rattle.frames.specs.declared.FrameOutcome.{FrameOutcome}
 use Rattle.frames.proofs.Bounds.{line-fits}

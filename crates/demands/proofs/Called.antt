@@ -4,14 +4,13 @@ use mathlib.Core.Path.{_≡_, refl, sym, ap, subst, _∙_}
 use mathlib.Core.List.{List, [], _∷_}
 use mathlib.Core.Bool.{Bool, true, false, cond, not, _&&_, _||_}
 use mathlib.Core.Logic.{_≢_}
-use borrow.Author.Tests.{ltb-true, ltb-false, lt-leb, le-leb}
 use lib.ListN.{length, drop}
 use lib.Seq.{drop-append-seam}
-use lib.Dec.{eqb, leb, ltb}
-use Rattle.ground.proofs.Cases.{never, cond-cases}
+use lib.Dec.{eqb, ltb}
+use Rattle.ground.specs.Members.{Each}
+use Rattle.ground.proofs.Cases.{never, cond-cases, at-most}
 use Rattle.gauges.specs.Readings.{withinLimits}
 use Rattle.gauges.specs.declared.reading.Reading.{Reading}
-use Rattle.ground.specs.Members.{Each}
 use Rattle.settings.specs.Models.{modelOf}
 use Rattle.settings.specs.declared.model.Model.{Model}
 use Rattle.settings.specs.declared.model.Model.the-variants.{Tpg361, Tpg362}
@@ -43,13 +42,6 @@ use Rattle.demands.specs.Sheets.{Boxes}
 -- ---- the table
 
 -- one number is at most another where that one is not below it
-at-most : (a b : ℕ) → leb a b ≡ not (ltb b a)
-at-most a b = by (ltb b a) refl
-  where
-    by : (t : Bool) → ltb b a ≡ t → leb a b ≡ not t
-    by true e = lt-leb a b (ltb-true b a e)
-    by false e = le-leb a b (ltb-false b a e)
-
 -- the number and the count of a call are those of its rows and of the bytes that it sends
 abbrev Tabled : Outcome → List Refusal → List ℕ → Type 0
 Tabled o rows sent = (number (o .answer) ≡ firstGiven rows) × (o .written ≡ length sent)

@@ -1,6 +1,6 @@
 -- Demand 3: a sheet of settings is read from one box and sent to another of the model, over bytes. Proved over a list of settings, and so
 -- over the sheet of any model.
-use Prim.Native.Nat.{ℕ, zero, suc, _+_, _<_}
+use Prim.Native.Nat.{ℕ, _+_, _<_}
 use mathlib.Core.Path.{_≡_, refl, sym, ap, ap₂, subst, _∙_}
 use mathlib.Core.List.{List, [], _∷_, _++_, map, flatMap, append-assoc, append-nil}
 use mathlib.Core.Bool.{true, and-eq-true-iff}
@@ -9,12 +9,15 @@ use native.Mathlib.Omega.{arith}
 use borrow.Author.Tests.{lt-ltb, ne-eqb}
 use lib.ListN.{length, take, drop}
 use lib.Seq.{drop-append-seam, drop-drop}
+use Rattle.ground.specs.Members.{Each}
+use Rattle.ground.proofs.Cases.{in-range}
+use Rattle.ground.proofs.Members.{each-map, each-both, each-take}
+use Rattle.ground.proofs.Sequences.{map-take}
 use Rattle.text.specs.Spans.{until}
+use Rattle.text.specs.Control.{crLf}
 use Rattle.settings.specs.Models.{channels}
 use Rattle.settings.specs.Mnemonics.{sheet, name}
 use Rattle.settings.specs.Rows.{cells}
-use Rattle.ground.specs.Members.{Each}
-use Rattle.ground.proofs.Cases.{in-range}
 use Rattle.settings.specs.Limits.{within}
 use Rattle.settings.specs.declared.model.Model.{Model}
 use Rattle.settings.specs.declared.model.Model.the-variants.{Tpg361, Tpg362}
@@ -23,11 +26,9 @@ use Rattle.settings.specs.declared.mnemonic.Mnemonic.{Mnemonic}
 use Rattle.settings.specs.declared.mnemonic.Mnemonic.the-variants.{OfSetting}
 use Rattle.settings.specs.declared.rows.Row.{Row}
 use Rattle.settings.specs.declared.Settings.{Settings}
-use Rattle.ground.proofs.Members.{each-map, each-both, each-take}
 use Rattle.settings.proofs.Sheets.{sheet-each}
 use Rattle.lines.specs.Judging.{rowOf, judged, effect}
 use Rattle.lines.specs.Replies.{settingText}
-use Rattle.text.specs.Control.{crLf}
 use Rattle.lines.specs.Sheets.{sheetLine, settingsAfter}
 use Rattle.lines.specs.declared.word.Word.{Word}
 use Rattle.lines.specs.declared.verdict.Verdict.{Verdict}
@@ -194,11 +195,6 @@ sheet-read a k e =
 -- the lines of a box, for some settings
 abbrev linesFor : State → List Setting → List (List ℕ)
 linesFor a xs = map (sheetLine (boxModel a) (boxSettings a)) xs
-
-map-take : {A B : Type 0} (f : A → B) (n : ℕ) (xs : List A) → take n (map f xs) ≡ map f (take n xs)
-map-take f zero xs = refl
-map-take f (suc n) [] = refl
-map-take f (suc n) (x ∷ xs) = ap (λ (l : List _). f x ∷ l) (map-take f n xs)
 
 -- what a host makes of the bytes that it received are the lines of the box's settings, and the first of them
 copy-lines : (a : State) → Sound a → (e : End) → copyOf said e a ≡ linesFor a (sheet (boxModel a))

@@ -6,8 +6,10 @@ use mathlib.Core.Path.{_≡_, refl}
 use mathlib.Core.List.{List, [], _∷_, _++_, map}
 use lib.IntN.{ℤ, pos, negsuc}
 use lib.ListN.{replicate}
+use Rattle.ground.specs.Members.{every}
 use Rattle.text.specs.Text.{ascii}
 use Rattle.text.specs.Digits.{bare}
+use Rattle.text.specs.Control.{crLf}
 use Rattle.numbers.specs.Numbers.{less, isBelow, isAbove}
 use Rattle.numbers.specs.Rounding.{climbWithin, five, power, rounded, fittedTo, scaledBy}
 use Rattle.numerals.specs.Runs.{lead, rest, headIs, value}
@@ -16,7 +18,6 @@ use Rattle.numerals.specs.Exponential.{afterPlus, afterSign, powerOf, composed,
 use Rattle.numerals.specs.Writing.{scientific}
 use Rattle.gauges.specs.Readings.{withinLimits, noReading}
 use Rattle.gauges.specs.Shown.{switched}
-use Rattle.ground.specs.Members.{every}
 use Rattle.settings.specs.Mnemonics.{known, same, found, recognised, answers}
 use Rattle.settings.specs.Kinds.{storedKinds}
 use Rattle.settings.specs.Limits.{within}
@@ -25,7 +26,6 @@ use Rattle.lines.specs.Splitting.{fields}
 use Rattle.lines.specs.Fields.{limited}
 use Rattle.lines.specs.Judging.{fieldsRead, formed, valued, withFields, judged}
 use Rattle.lines.specs.Replies.{settingText}
-use Rattle.text.specs.Control.{crLf}
 use Rattle.ports.specs.Line.{grown}
 use Rattle.ports.specs.Stream.{ticked}
 use Rattle.ports.specs.Hearing.{kindOf, concluded, asked, byKind, heard}

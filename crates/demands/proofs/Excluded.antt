@@ -8,15 +8,17 @@ use mathlib.Core.Logic.{_≢_}
 use native.Mathlib.Omega.{arith}
 use borrow.Author.Tests.{not-true, eq-eqb, lt-ltb}
 use lib.ListN.{getD, take, drop}
+use Rattle.ground.specs.Members.{every, Each}
 use Rattle.ground.proofs.Cases.{never}
+use Rattle.ground.proofs.Members.{each-map, each-both, every-each}
 use Rattle.text.specs.Text.{ascii}
 use Rattle.text.specs.Digits.{bare}
+use Rattle.text.specs.Control.{crLf}
 use Rattle.numbers.specs.Rounding.{climbWithin, five, power, rounded, fittedTo}
 use Rattle.numerals.specs.Runs.{lead, rest, headIs, value}
 use Rattle.numerals.specs.Whole.{numberOf, behindPoint, factorOf}
 use Rattle.numerals.specs.Exponential.{afterPlus, afterSign, powerOf, composed, fraction, afterFraction, thresholdOf}
 use Rattle.numerals.specs.Writing.{scientific}
-use Rattle.ground.specs.Members.{every, Each}
 use Rattle.settings.specs.Models.{channels, defaults}
 use Rattle.settings.specs.Mnemonics.{sheet, known, name, same, found, recognised}
 use Rattle.settings.specs.Kinds.{storedKinds, kinds}
@@ -29,7 +31,6 @@ use Rattle.settings.specs.declared.mnemonic.Mnemonic.{Mnemonic}
 use Rattle.settings.specs.declared.mnemonic.Mnemonic.the-variants.{OfSetting}
 use Rattle.settings.specs.declared.rows.Row.{Row}
 use Rattle.settings.specs.declared.Settings.{Settings}
-use Rattle.ground.proofs.Members.{each-map, each-both, every-each}
 use Rattle.settings.proofs.Storing.{Holding}
 use Rattle.settings.proofs.Storing.Holding.{uni, fil}
 use Rattle.settings.proofs.Sheets.{sheet-holding, on-sheet, sheet-each}
@@ -37,7 +38,6 @@ use Rattle.lines.specs.Splitting.{fields, joined}
 use Rattle.lines.specs.Fields.{limited}
 use Rattle.lines.specs.Judging.{fieldsRead, formed, valued, withFields, judged}
 use Rattle.lines.specs.Replies.{texts, settingText}
-use Rattle.text.specs.Control.{crLf}
 use Rattle.lines.specs.declared.word.Word.{Word}
 use Rattle.lines.specs.declared.verdict.Verdict.{Verdict}
 use Rattle.lines.specs.declared.verdict.Verdict.the-variants.{Asks, Writes, Refused}

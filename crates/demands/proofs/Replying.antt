@@ -4,14 +4,15 @@ use mathlib.Core.Path.{_≡_, refl, sym, ap, ap₂, subst, _∙_}
 use mathlib.Core.List.{List, [], _∷_, _++_}
 use mathlib.Core.Bool.{Bool, true, false, cond}
 use native.Mathlib.Omega.{arith}
-use lib.ListN.{set, take}
 use lib.Dec.{ltb}
+use Rattle.ground.specs.Members.{Each}
 use Rattle.ground.proofs.Cases.{never}
+use Rattle.ground.proofs.Members.{each-map, each-both}
+use Rattle.ground.proofs.Sequences.{take-set}
 use Rattle.settings.specs.Models.{channels}
 use Rattle.settings.specs.Mnemonics.{sheet, known, name, channelOf, hasReply}
 use Rattle.settings.specs.Kinds.{factor, kinds}
 use Rattle.settings.specs.Rows.{plain, pairRow, row, listed, firstNumber, fieldCount}
-use Rattle.ground.specs.Members.{Each}
 use Rattle.settings.specs.declared.mnemonic.Setting.{Setting}
 use Rattle.settings.specs.declared.mnemonic.Setting.the-variants.{Cal}
 use Rattle.settings.specs.declared.mnemonic.Query.{Query}
@@ -19,7 +20,6 @@ use Rattle.settings.specs.declared.mnemonic.Query.the-variants.{Sps, Pr, Prx, T
 use Rattle.settings.specs.declared.mnemonic.Mnemonic.{Mnemonic}
 use Rattle.settings.specs.declared.mnemonic.Mnemonic.the-variants.{OfSetting, Cf, OfQuery, Com, Sav}
 use Rattle.settings.specs.declared.rows.Row.{Row}
-use Rattle.ground.proofs.Members.{each-map, each-both}
 use Rattle.settings.proofs.Places.{fits-plain, row-places}
 use Rattle.settings.proofs.Storing.{Holding, mixed-front, stored-row, factor-row}
 use Rattle.settings.proofs.Sheets.{sheet-holding, few, known-each}
@@ -126,12 +126,6 @@ reads s k m sp short has w ready =
     ∙ read-text (w .enqs) (s .instrument) (s .port .error) m has (ltb (channelOf m) (channels model))
 
 -- ---- a line that writes it
-
-take-set : {A : Type 0} (n i : ℕ) (v : A) (l : List A) → take n (set l i v) ≡ set (take n l) i v
-take-set zero i v l = refl
-take-set (suc n) i v [] = refl
-take-set (suc n) zero v (x ∷ l) = refl
-take-set (suc n) (suc i) v (x ∷ l) = ap (λ (t : List _). x ∷ t) (take-set n i v l)
 
 module _ (s : State) (k : Sound s) where
   -- what the ENQ tells of a line that wrote is what it wrote

@@ -8,32 +8,32 @@ use native.Mathlib.Omega.{arith}
 use borrow.Author.Tests.{leb-true, le-leb, ne-eqb}
 use lib.ListN.{length, length-append}
 use lib.Dec.{leb, ltb}
-use Rattle.numbers.specs.declared.threshold.Threshold.{Threshold}
+use Rattle.ground.specs.Members.{every, Each}
 use Rattle.ground.proofs.Cases.{in-range}
+use Rattle.ground.proofs.Members.{each-map, each-append, every-each}
+use Rattle.text.specs.Control.{isCharacter}
+use Rattle.numbers.specs.declared.threshold.Threshold.{Threshold}
 use Rattle.settings.specs.Models.{channels}
 use Rattle.settings.specs.Mnemonics.{known, name, channelOf}
 use Rattle.settings.specs.Kinds.{kinds}
 use Rattle.settings.specs.Rows.{cells}
-use Rattle.ground.specs.Members.{every, Each}
 use Rattle.settings.specs.declared.model.Model.{Model}
 use Rattle.settings.specs.declared.mnemonic.Setting.{Setting}
 use Rattle.settings.specs.declared.mnemonic.Mnemonic.{Mnemonic}
 use Rattle.settings.specs.declared.mnemonic.Mnemonic.the-variants.{OfSetting}
 use Rattle.settings.specs.declared.kinds.Kind.{Kind}
 use Rattle.settings.specs.declared.Settings.{Settings}
-use Rattle.ground.proofs.Members.{each-map, each-append, every-each}
 use Rattle.lines.specs.Splitting.{joined}
 use Rattle.lines.specs.Judging.{alone, withFields, parted, judged}
 use Rattle.lines.specs.Replies.{texts, settingText}
 use Rattle.lines.specs.Sheets.{sheetLine}
-use Rattle.lines.proofs.ReadBack.{Written, each-written}
 use Rattle.lines.specs.declared.verdict.Fault.the-variants.{Hardware}
 use Rattle.lines.specs.declared.verdict.Verdict.the-variants.{Refused}
+use Rattle.lines.proofs.ReadBack.{Written, each-written}
 use Rattle.lines.proofs.Walking.{judged-parts}
 use Rattle.lines.proofs.Accepted.{Spelt, fields-one}
 use Rattle.instrument.proofs.Lengths.{setting-short}
 use Rattle.demands.specs.Wire.{Inner, undropped, lineIn}
-use Rattle.text.specs.Control.{isCharacter}
 use Rattle.demands.proofs.Typing.{short-good}
 
 -- ---- lines that are what is sent of them

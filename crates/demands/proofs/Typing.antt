@@ -13,6 +13,7 @@ use lib.Dec.{eqb}
 use Rattle.ground.specs.Members.{every, Each}
 use Rattle.ground.proofs.Members.{each-append, each-every}
 use Rattle.ground.proofs.Cases.{below}
+use Rattle.text.specs.Control.{isCharacter}
 use Rattle.lines.specs.Words.{noError}
 use Rattle.lines.specs.Judging.{judged}
 use Rattle.lines.specs.declared.word.Word.{Word}
@@ -36,7 +37,6 @@ use Rattle.tpg.specs.Steps.{lineText, eventText, acted, hearing, next, sent, af
 use Rattle.tpg.specs.declared.State.{State}
 use Rattle.tpg.proofs.HostRun.{after-append, said-append}
 use Rattle.demands.specs.Wire.{Inner, undropped, isGood, lineIn, End, byCr, byCrLf, ended, anew, enquiries, asOften, gathering, errorLeft}
-use Rattle.text.specs.Control.{isCharacter}
 use Rattle.demands.proofs.Ending.{Line, choice, marked-line, settled-line, Judged, Held, held-line, enqText, wordLeft, reply-without-word, told-word, word-stays-gone, cr-judges, enq-replies, lf-nothing, etx-empties}
 
 -- ---- the bytes of a line

@@ -5,8 +5,9 @@ use mathlib.Core.Path.{_≡_}
 use mathlib.Core.List.{List, [], _∷_, _++_, flatMap}
 use mathlib.Core.Logic.{_↔_}
 use lib.ListN.{length, take, drop}
-use Rattle.text.specs.Spans.{until}
 use Rattle.ground.specs.Members.{Each}
+use Rattle.text.specs.Spans.{until}
+use Rattle.text.specs.Control.{cr, crLf}
 use Rattle.settings.specs.Mnemonics.{sheet, name}
 use Rattle.settings.specs.Rows.{row}
 use Rattle.settings.specs.declared.mnemonic.Setting.{Setting}
@@ -14,7 +15,6 @@ use Rattle.settings.specs.declared.mnemonic.Mnemonic.the-variants.{OfSetting}
 use Rattle.settings.specs.declared.Settings.{Settings}
 use Rattle.settings.specs.declared.model.Model.{Model}
 use Rattle.lines.specs.Replies.{settingText}
-use Rattle.text.specs.Control.{cr, crLf}
 use Rattle.tpg.specs.States.{Sound}
 use Rattle.tpg.specs.declared.State.{State}
 use Rattle.demands.specs.Wire.{ackLine, End, ended, anew, enquiries}

@@ -4,9 +4,10 @@ use mathlib.Core.Path.{_≡_}
 use mathlib.Core.List.{List, [], _∷_, _++_}
 use mathlib.Core.Bool.{Bool, true, cond, not, _&&_, _||_}
 use mathlib.Core.Logic.{_≢_}
-use lib.Dec.{eqb, ltb, leb}
+use lib.Dec.{ltb, leb}
 use lib.ListN.{length, set, take, replicate}
 use Rattle.ground.specs.Members.{every}
+use Rattle.text.specs.Control.{etx, enq, ack, cr, nak, crLf, isCharacter}
 use Rattle.settings.specs.Models.{channels}
 use Rattle.settings.specs.Mnemonics.{hasReply, isErr, channelOf}
 use Rattle.settings.specs.Kinds.{kinds}
@@ -19,7 +20,6 @@ use Rattle.settings.specs.declared.rows.Row.{Row}
 use Rattle.lines.specs.Splitting.{joined}
 use Rattle.lines.specs.Words.{noError, gathered}
 use Rattle.lines.specs.Replies.{texts}
-use Rattle.text.specs.Control.{etx, enq, ack, cr, nak, crLf, isCharacter}
 use Rattle.lines.specs.declared.word.Word.{Word}
 use Rattle.lines.specs.declared.verdict.Fault.the-variants.{Hardware}
 use Rattle.lines.specs.declared.verdict.Verdict.{Verdict}

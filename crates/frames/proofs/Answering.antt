@@ -10,14 +10,14 @@ use lib.ListN.{length, getD, take, drop, length-append}
 use lib.Seq.{take-append-seam, drop-append-add, drop-drop}
 use lib.Dec.{leb, eqb}
 use Rattle.ground.proofs.Cases.{never, true-or-false}
+use Rattle.text.specs.Hex.{isHexDigit, isHex, unhex, hex}
+use Rattle.text.proofs.HexDigits.{hex-length}
 use Rattle.tpg.specs.Steps.{over}
 use Rattle.tpg.specs.declared.State.{State}
 use Rattle.tpg.proofs.Laying.{over-length}
-use Rattle.text.specs.Hex.{isHexDigit, isHex, unhex, hex}
 use Rattle.frames.specs.Frames.{Exchange, bytesOf, longestFrame, noFrame, framed, lineReply, outputLine, mostSent, longestLine, answerCall, answerLine}
 use Rattle.frames.specs.Walk.{readBytes, frameOutcome}
 use Rattle.frames.specs.declared.FrameOutcome.{FrameOutcome}
-use Rattle.text.proofs.HexDigits.{hex-length}
 use Rattle.frames.proofs.Bounds.{framed-few, bytes-small}
 
 -- ---- a line that is too long to be read has no form

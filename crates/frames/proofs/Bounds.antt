@@ -6,6 +6,8 @@ use borrow.Author.Tests.{leb-true}
 use lib.ListN.{length, getD, drop, length-append, length-drop}
 use lib.Dec.{leb}
 use Rattle.ground.proofs.Cases.{cond-cases}
+use Rattle.text.specs.Hex.{isHex, unhex}
+use Rattle.text.proofs.HexDigits.{hex-length, unhex-small}
 use Rattle.tpg.specs.Answers.{leastOutput}
 use Rattle.tpg.specs.States.{stateWithin}
 use Rattle.tpg.specs.Steps.{next, said}
@@ -13,10 +15,8 @@ use Rattle.tpg.specs.Calls.{ticksText}
 use Rattle.tpg.specs.declared.State.{State}
 use Rattle.tpg.proofs.Sending.{sent-length}
 use Rattle.tpg.proofs.Ticking.{ticks-length}
-use Rattle.text.specs.Hex.{isHex, unhex}
 use Rattle.frames.specs.Frames.{Exchange, bytesOf, longestFrame, sendingFrame, hostFrame, ticksFrame, framed, lineReply, outputLine, mostSent, longestLine, answerCall}
 use Rattle.frames.specs.declared.FrameOutcome.{FrameOutcome}
-use Rattle.text.proofs.HexDigits.{hex-length, unhex-small}
 use Rattle.frames.proofs.Forms.{framed-cases, reading-unsent, fresh-unsent}
 
 pub said-length : (l : List ℕ) (s : State) → length (said s l) ≤ leastOutput * length l

@@ -11,7 +11,6 @@ use lib.Dec.{eqb}
 use lib.IntN.{ℤ}
 use mathlib.Core.Logic.{_⊎_, inl, inr}
 use Rattle.ground.proofs.Cases.{never, true-or-false, cond-cases}
-use Rattle.frames.specs.Measured.{exponentOf, mantissaOf}
 use Rattle.gauges.specs.Readings.{withinLimits}
 use Rattle.gauges.specs.declared.reading.Reading.{Reading}
 use Rattle.tpg.specs.Answers.{number, done, leastOutput}
@@ -21,6 +20,7 @@ use Rattle.tpg.specs.Calls.{admits, turnedAway, roomed, roomedBytes, hostText, 
 use Rattle.tpg.specs.declared.State.{State}
 use Rattle.tpg.specs.declared.answers.Outcome.{Outcome}
 use Rattle.tpg.proofs.Counts.{all-taken}
+use Rattle.frames.specs.Measured.{exponentOf, mantissaOf}
 use Rattle.frames.specs.Frames.{silent, sendingFrame, hostFrame, readingOf, readingFrame, ticksFrame, modelNumber, freshFrame}
 use Rattle.frames.specs.Walk.{frameOutcome}
 use Rattle.frames.specs.declared.FrameOutcome.{FrameOutcome}

@@ -1,5 +1,5 @@
 -- A line read two digits at a time.
-use Prim.Native.Nat.{ℕ, suc, _+_, _*_, _%_, _≤_, _<_}
+use Prim.Native.Nat.{ℕ, suc, _+_, _*_, _≤_, _<_}
 use mathlib.Core.Path.{_≡_, refl, sym, ap, _∙_}
 use mathlib.Core.List.{List, [], _∷_, _++_, append-nil}
 use mathlib.Core.Bool.{Bool, true, false, cond, _&&_}
@@ -9,7 +9,6 @@ use borrow.Author.Tests.{le-leb, lt-leb}
 use lib.ListN.{length, getD, set, take, drop, length-set, drop-of-length-le}
 use lib.Seq.{take-suc-set, drop-cons, append-snoc}
 use lib.Dec.{leb}
-use Rattle.ground.proofs.Cases.{never}
 use Rattle.text.specs.Hex.{valueOf, isHexDigit, isHex, unhex}
 use Rattle.frames.specs.Frames.{bytesOf, longestFrame}
 use Rattle.frames.specs.Walk.{readBytes}

@@ -1,21 +1,14 @@
 -- Bytes at the start of an output turned into their digits in place, from the last one on.
-use Prim.Native.Nat.{ℕ, zero, suc, _+_, _*_, _≤_, _<_, _/_, _%_}
+use Prim.Native.Nat.{ℕ, suc, _+_, _*_, _≤_, _<_, _/_, _%_}
 use mathlib.Core.Path.{_≡_, refl, sym, ap, _∙_}
 use mathlib.Core.List.{List, [], _∷_, _++_}
 use native.Mathlib.Omega.{arith}
 use lib.ListN.{length, getD, set, take, drop, length-set, length-append, drop-of-length-le}
 use lib.Seq.{length-take-le, take-take, take-set-le, getD-take, drop-cons, set-at, append-snoc}
-use Rattle.ground.proofs.Cases.{never}
-use Rattle.tpg.specs.Steps.{over}
+use Rattle.ground.proofs.Sequences.{set-two}
 use Rattle.text.specs.Hex.{digitOf, hexPair, hex}
 use Rattle.text.proofs.HexDigits.{hex-length}
-
--- two places next to each other
-two : (l : List ℕ) (n a b : ℕ) → suc n < length l → drop n (set (set l n a) (suc n) b) ≡ a ∷ b ∷ drop (suc (suc n)) l
-two [] n a b h = never (omega arith)
-two (x ∷ []) n a b h = never (omega arith)
-two (x ∷ y ∷ l) zero a b h = refl
-two (x ∷ y ∷ l) (suc n) a b h = two (y ∷ l) n a b (omega arith)
+use Rattle.tpg.specs.Steps.{over}
 
 -- with the bytes from i on turned
 pub record Spread (out₀ out : List ℕ) (count i : ℕ) : Type 0 where
@@ -31,7 +24,7 @@ start out₀ count room =
     let none : drop count (take count out₀) ≡ [] = drop-of-length-le (take count out₀) {i = count} (omega (arith, length-take-le count out₀ (omega arith))) in
     record { low = omega arith; room = room; same = refl; front = refl; back = rw none }
 
--- a byte's two digits laid down
+-- a byte's set-two digits laid down
 abbrev pub put : List ℕ → ℕ → ℕ → List ℕ
 put out at byte = set (set out at (digitOf (byte / 16))) (at + 1) (digitOf (byte % 16))
 
@@ -45,7 +38,7 @@ pair-back : (out : List ℕ) (at byte : ℕ) → at + 1 < length out → drop at
 pair-back out at byte h =
     let one : at + 1 ≡ suc at = omega arith in
     let more : at + 2 ≡ suc (suc at) = omega arith in
-    rw (one, more) (two out at (digitOf (byte / 16)) (digitOf (byte % 16)) (omega arith))
+    rw (one, more) (set-two out at (digitOf (byte / 16)) (digitOf (byte % 16)) (omega arith))
 
 module _ (out₀ out : List ℕ) (count : ℕ) where
   abbrev bytes : List ℕ

@@ -4,7 +4,8 @@ use mathlib.Core.List.{List, [], _∷_, _++_}
 use mathlib.Core.Bool.{cond, _&&_}
 use lib.ListN.{length, getD, drop}
 use lib.Dec.{leb, eqb}
-use Rattle.frames.specs.Measured.{exponentOf, mantissaOf}
+use Rattle.text.specs.Control.{lf}
+use Rattle.text.specs.Hex.{isHex, unhex, hex}
 use Rattle.gauges.specs.declared.reading.Reading.{Reading}
 use Rattle.tpg.specs.Answers.{number, leastOutput}
 use Rattle.tpg.specs.States.{stateWithin}
@@ -12,8 +13,7 @@ use Rattle.tpg.specs.Steps.{after, said}
 use Rattle.tpg.specs.Calls.{freshCall, readingCall, cycleCall, afterTicks, ticksText}
 use Rattle.tpg.specs.declared.State.{State}
 use Rattle.tpg.specs.declared.answers.Outcome.{Outcome}
-use Rattle.text.specs.Control.{lf}
-use Rattle.text.specs.Hex.{isHex, unhex, hex}
+use Rattle.frames.specs.Measured.{exponentOf, mantissaOf}
 use Rattle.frames.specs.declared.FrameOutcome.{FrameOutcome}
 
 -- "one frame a line": its bytes; a line that is no hexadecimal has none

@@ -1,11 +1,12 @@
 -- What the limits of a reading tell: above all that status 5 is a channel without a reading and nothing else.
-use Prim.Native.Nat.{ℕ, zero, suc}
+use Prim.Native.Nat.{ℕ, suc}
 use mathlib.Core.Path.{_≡_, refl, sym, ap, ap₂, _∙_}
-use mathlib.Core.Bool.{Bool, Bool·beq, true, false, not, _&&_, _||_, and-eq-true-iff}
+use mathlib.Core.Bool.{Bool·beq, true, not, _&&_, _||_, and-eq-true-iff}
 use native.Mathlib.Omega.{arith}
 use borrow.Author.Tests.{eq-eqb, eqb-true}
 use lib.Dec.{eqb}
 use lib.IntN.{ℤ, pos, negsuc, natAbs}
+use Rattle.ground.proofs.Cases.{beq-same}
 use Rattle.numbers.specs.Numbers.{isZero}
 use Rattle.numbers.specs.declared.value.Value.{Value}
 use Rattle.gauges.specs.Readings.{kindAndStatus, valueInRange, sensorAgrees, identifierAgrees, withinLimits, zeroValue, noReading}
@@ -14,12 +15,6 @@ use Rattle.gauges.specs.declared.reading.Reading.{Reading}
 pub none-within : withinLimits noReading ≡ true
 unfolding withinLimits
 none-within = refl
-
-same : (a b : Bool) → Bool·beq a b ≡ true → a ≡ b
-same true true e = refl
-same true false e = sym e
-same false true e = e
-same false false e = refl
 
 abs-zero : (z : ℤ) → natAbs z ≡ 0 → z ≡ pos 0
 abs-zero (pos n) e = ap pos e
@@ -50,7 +45,7 @@ module _ (r : Reading) (h : withinLimits r ≡ true) where
   sensor : (eqb (r .status) 5 ≡ eqb (r .kind) 6) × (not (eqb (r .kind) 6) || isZero (r .value) ≡ true)
   sensor =
       let s = and-eq-true-iff (Bool·beq (eqb (r .status) 5) (eqb (r .kind) 6)) (not (eqb (r .kind) 6) || isZero (r .value)) .0 (ranges .1) in
-      (same (eqb (r .status) 5) (eqb (r .kind) 6) (s .0), s .1)
+      (beq-same (eqb (r .status) 5) (eqb (r .kind) 6) (s .0), s .1)
 
   absent : eqb (r .kind) 6 ≡ true → r ≡ noReading
   absent k =
@@ -68,4 +63,4 @@ module _ (r : Reading) (h : withinLimits r ≡ true) where
 
   -- status 6 is an unknown gauge
   pub identified : eqb (r .status) 6 ≡ eqb (r .kind) 7
-  identified = same (eqb (r .status) 6) (eqb (r .kind) 7) (tests .1)
+  identified = beq-same (eqb (r .status) 6) (eqb (r .kind) 7) (tests .1)

@@ -8,22 +8,22 @@ use borrow.Author.Tests.{le-leb, leb-true, eqb-true}
 use lib.Dec.{eqb, leb}
 use lib.IntN.{pos, negsuc, natAbs, _-ℤ_}
 use lib.ListN.{length}
+use Rattle.ground.proofs.Cases.{or-either, or-right, cond-cases}
 use Rattle.text.specs.Text.{ascii}
 use Rattle.text.proofs.Decimals.{whole-digit}
 use Rattle.numbers.specs.Numbers.{between, isZero, isFive, isNumber, isBelow, isAbove, signed}
 use Rattle.numbers.specs.Rounding.{isUsable, scaledBy, Nearest}
 use Rattle.numbers.specs.declared.threshold.Threshold.{Threshold}
 use Rattle.numbers.specs.declared.value.Value.{Value}
-use Rattle.ground.proofs.Cases.{or-either, or-right, cond-cases}
+use Rattle.numbers.specs.Units.{fromHpa}
 use Rattle.numbers.proofs.Signed.{between-near, near-between}
 use Rattle.numbers.proofs.Scaling.{scaled-nearest, scaled-five, scaled-near, scaled-sign, scaled-not}
+use Rattle.numbers.proofs.UnitFactors.{usable}
 use Rattle.numerals.specs.Writing.{scientific, valueText}
 use Rattle.gauges.specs.Readings.{valueInRange, withinLimits, zeroValue}
-use Rattle.numbers.specs.Units.{fromHpa}
 use Rattle.gauges.specs.Shown.{absentShows, inHpa, shownOf, shownText, switched}
 use Rattle.gauges.specs.declared.reading.Reading.{Reading}
 use Rattle.gauges.specs.declared.shown.Shown.{Shown}
-use Rattle.numbers.proofs.UnitFactors.{usable}
 use Rattle.gauges.proofs.ReadingLimits.{zero-is, known, in-range}
 
 module _ (r : Reading) (unit : ℕ) (five : isFive (inHpa r) ≡ true) where

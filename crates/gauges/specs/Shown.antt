@@ -10,8 +10,8 @@ use Rattle.numbers.specs.Numbers.{isBelow, isAbove}
 use Rattle.numbers.specs.Rounding.{scaledBy}
 use Rattle.numbers.specs.declared.threshold.Threshold.{Threshold}
 use Rattle.numbers.specs.declared.value.Value.{Value}
-use Rattle.numerals.specs.Writing.{valueText}
 use Rattle.numbers.specs.Units.{fromHpa}
+use Rattle.numerals.specs.Writing.{valueText}
 use Rattle.gauges.specs.declared.reading.Reading.{Reading}
 use Rattle.gauges.specs.declared.shown.Shown.{Shown}
 

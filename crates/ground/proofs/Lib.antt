@@ -1,4 +1,5 @@
 pub mod Cases
 pub mod Members
 pub mod Ranges
+pub mod Sequences
 pub mod Tables

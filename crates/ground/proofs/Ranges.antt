@@ -39,3 +39,11 @@ upto-each (suc n) f e (suc i) h = upto-each n (λ i. f (suc i)) (and-eq-true-iff
 pub each-upto : (n : ℕ) (f : ℕ → Bool) → ((i : ℕ) → i ≤ n → f i ≡ true) → upto n f ≡ true
 each-upto zero f h = h 0 (omega arith)
 each-upto (suc n) f h = rw (h 0 (omega arith)) (each-upto n (λ i. f (suc i)) (λ i l. h (suc i) (omega arith)))
+
+-- what holds of each number up to three
+pub upto-three : (P : ℕ → Type 0) → P 0 → P 1 → P 2 → P 3 → (m : ℕ) → m ≤ 3 → P m
+upto-three P a b c d zero h = a
+upto-three P a b c d (suc zero) h = b
+upto-three P a b c d (suc (suc zero)) h = c
+upto-three P a b c d (suc (suc (suc zero))) h = d
+upto-three P a b c d (suc (suc (suc (suc m)))) h = absurd (omega arith)

@@ -9,6 +9,8 @@ use lib.Dec.{eqb}
 use lib.ListN.{getD}
 use lib.Seq.{getD-set-same}
 use Rattle.text.specs.Text.{ascii}
+use Rattle.text.specs.Digits.{binary}
+use Rattle.text.specs.Control.{crLf}
 use Rattle.gauges.specs.Readings.{noReading, withinLimits}
 use Rattle.gauges.specs.Shown.{shownOf}
 use Rattle.gauges.specs.declared.reading.Reading.{Reading}
@@ -22,8 +24,6 @@ use Rattle.settings.specs.declared.mnemonic.Query.the-variants.{Sps, Prx, Ayt}
 use Rattle.settings.specs.declared.mnemonic.Mnemonic.the-variants.{OfSetting, OfQuery, Sav}
 use Rattle.settings.specs.declared.rows.Row.{Row}
 use Rattle.settings.specs.declared.Settings.{Settings}
-use Rattle.text.specs.Digits.{binary}
-use Rattle.text.specs.Control.{crLf}
 use Rattle.lines.specs.declared.word.Word.{Word}
 use Rattle.lines.specs.declared.verdict.Verdict.the-variants.{Writes}
 use Rattle.instrument.specs.Events.{functionAt, isOn, started, following, measured, written, applied}

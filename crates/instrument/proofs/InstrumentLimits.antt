@@ -1,5 +1,5 @@
 -- Every event keeps the limits of the instrument and the lengths of its arrays, and a refused line changes nothing.
-use Prim.Native.Nat.{ℕ, zero, suc, _+_, _≤_, _<_}
+use Prim.Native.Nat.{ℕ, _+_, _≤_, _<_}
 use mathlib.Core.Path.{_≡_, refl, sym, subst}
 use mathlib.Core.List.{List, [], _∷_}
 use mathlib.Core.Bool.{Bool, Bool·beq, true, false, _&&_, and-eq-true-iff}
@@ -12,6 +12,7 @@ use lib.Seq.{getD-set-same, getD-set-other}
 use Rattle.ground.proofs.Tables.{tabled}
 use Rattle.ground.proofs.Ranges.{upto, upto-each, each-upto}
 use Rattle.ground.proofs.Cases.{true-or-false, or-right, cond-cases}
+use Rattle.ground.proofs.Members.{each-at}
 use Rattle.gauges.specs.Readings.{noReading, withinLimits}
 use Rattle.gauges.specs.Shown.{shownOf, switched}
 use Rattle.gauges.specs.declared.reading.Reading.{Reading}
@@ -29,7 +30,6 @@ use Rattle.settings.specs.declared.mnemonic.Mnemonic.the-variants.{OfSetting, C
 use Rattle.settings.specs.declared.rows.Row.{Row}
 use Rattle.settings.specs.declared.Switching.{Switching}
 use Rattle.settings.specs.declared.Settings.{Settings}
-use Rattle.ground.proofs.Members.{each-at}
 use Rattle.settings.proofs.StoredLimits.{defaults-within, defaults-shaped}
 use Rattle.lines.specs.Judging.{judged, effect}
 use Rattle.lines.specs.declared.verdict.Fault.{Fault}

@@ -9,15 +9,17 @@ use borrow.Author.Tests.{leb-true}
 use lib.Dec.{leb, eqb}
 use lib.IntN.{ℤ}
 use lib.ListN.{length, length-append}
+use Rattle.ground.specs.Members.{Each, every}
+use Rattle.ground.proofs.Cases.{cond-cases}
+use Rattle.ground.proofs.Members.{each-at, every-each}
 use Rattle.text.specs.Digits.{dig, bare, wholeText}
+use Rattle.text.specs.Control.{crLf}
 use Rattle.text.proofs.Decimals.{dig-length}
 use Rattle.numbers.specs.declared.threshold.Threshold.{Threshold}
-use Rattle.ground.proofs.Cases.{cond-cases}
 use Rattle.numerals.specs.Writing.{scientific, valueText}
 use Rattle.gauges.specs.Shown.{shownOf, shownText}
 use Rattle.gauges.specs.Identification.{kindNames, kindName}
 use Rattle.gauges.specs.declared.shown.Shown.{Shown}
-use Rattle.ground.specs.Members.{Each, every}
 use Rattle.settings.specs.Kinds.{kinds}
 use Rattle.settings.specs.Rows.{cells}
 use Rattle.settings.specs.declared.model.Model.{Model}
@@ -31,12 +33,10 @@ use Rattle.settings.specs.declared.mnemonic.Mnemonic.the-variants.{OfSetting, C
 use Rattle.settings.specs.declared.kinds.Kind.{Kind}
 use Rattle.settings.specs.declared.kinds.Kind.the-variants.{OfWhole, OfFactor, OfThreshold}
 use Rattle.settings.specs.declared.Settings.{Settings}
-use Rattle.ground.proofs.Members.{each-at, every-each}
 use Rattle.settings.proofs.Sheets.{few}
 use Rattle.lines.specs.Splitting.{joined}
 use Rattle.lines.specs.Fields.{write}
 use Rattle.lines.specs.Replies.{texts, settingText}
-use Rattle.text.specs.Control.{crLf}
 use Rattle.lines.specs.declared.word.Word.{Word}
 use Rattle.instrument.specs.Replies.{readingAt, shownAt, kindAt, eachChannel, serialText, readingsText, queryText, replyText, streamText}
 use Rattle.instrument.specs.declared.Instrument.{Instrument}

@@ -6,6 +6,7 @@ use mathlib.Core.Bool.{Bool, false}
 use lib.ListN.{getD, take}
 use Rattle.text.specs.Text.{ascii}
 use Rattle.text.specs.Digits.{paddedText, binary}
+use Rattle.text.specs.Control.{crLf}
 use Rattle.gauges.specs.Readings.{noReading}
 use Rattle.gauges.specs.Shown.{shownOf, shownText}
 use Rattle.gauges.specs.Identification.{kindName}
@@ -19,7 +20,6 @@ use Rattle.settings.specs.declared.mnemonic.Mnemonic.the-variants.{OfSetting, C
 use Rattle.lines.specs.Splitting.{joined}
 use Rattle.lines.specs.Words.{wordText}
 use Rattle.lines.specs.Replies.{settingText, factorsText}
-use Rattle.text.specs.Control.{crLf}
 use Rattle.lines.specs.declared.word.Word.{Word}
 use Rattle.instrument.specs.Events.{eachFour}
 use Rattle.instrument.specs.declared.Instrument.{Instrument}

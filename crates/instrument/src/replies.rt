@@ -1,7 +1,7 @@
 // What a box sends of its instrument: the reply of each mnemonic, and the line of the stream.
 ghost use mathlib.Core.Path.{_≡_};
-ghost use Rattle.text.specs.Page.{page, puts};
 ghost use mathlib.Core.List.{_++_};
+ghost use Rattle.text.specs.Page.{page, puts};
 ghost use Rattle.text.specs.Control.{crLf};
 ghost use Rattle.instrument.specs.Replies.{readingAt, kindAt, shownAt, eachChannel, switchesText, serialText, queryText, replyText, streamText};
 use crate::Instrument;

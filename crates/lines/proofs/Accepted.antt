@@ -8,12 +8,13 @@ use native.Mathlib.Omega.{arith}
 use borrow.Author.Tests.{ltb-true, lt-ltb, eq-eqb, not-true}
 use lib.ListN.{length, getD, take}
 use lib.Dec.{eqb, ltb}
+use Rattle.ground.specs.Members.{every, Each}
+use Rattle.ground.proofs.Members.{each-map, each-both, every-each, map-each}
 use Rattle.numbers.specs.declared.threshold.Threshold.{Threshold}
 use Rattle.settings.specs.Models.{channels, defaults}
 use Rattle.settings.specs.Mnemonics.{sheet, known, name, same, found, recognised, channelOf}
 use Rattle.settings.specs.Kinds.{kinds, storedKinds}
 use Rattle.settings.specs.Rows.{plain, row, listed, cells}
-use Rattle.ground.specs.Members.{every, Each}
 use Rattle.settings.specs.Limits.{fits, within}
 use Rattle.settings.specs.declared.model.Model.{Model}
 use Rattle.settings.specs.declared.model.Model.the-variants.{Tpg361, Tpg362}
@@ -24,7 +25,6 @@ use Rattle.settings.specs.declared.mnemonic.Named.the-variants.{Known}
 use Rattle.settings.specs.declared.kinds.Kind.{Kind}
 use Rattle.settings.specs.declared.kinds.Kind.the-variants.{OfThreshold}
 use Rattle.settings.specs.declared.Settings.{Settings}
-use Rattle.ground.proofs.Members.{each-map, each-both, every-each, map-each}
 use Rattle.settings.proofs.Places.{row-places}
 use Rattle.settings.proofs.Storing.{Holding}
 use Rattle.settings.proofs.Sheets.{sheet-holding, on-sheet, few, within-rows, sheet-each}

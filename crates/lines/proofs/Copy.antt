@@ -5,6 +5,9 @@ use mathlib.Core.List.{List, [], _∷_, map}
 use mathlib.Core.Bool.{true}
 use mathlib.Core.Logic.{_≢_, _↔_}
 use lib.ListN.{take, drop}
+use Rattle.ground.specs.Members.{Each}
+use Rattle.ground.proofs.Members.{each-both, each-take, each-drop, map-each}
+use Rattle.ground.proofs.Ranges.{upto-three}
 use Rattle.settings.specs.Mnemonics.{sheet}
 use Rattle.settings.specs.Rows.{row, listed, fieldCount, cells}
 use Rattle.settings.specs.Limits.{within, SettingsShaped}
@@ -13,9 +16,7 @@ use Rattle.settings.specs.declared.mnemonic.Setting.{Setting}
 use Rattle.settings.specs.declared.mnemonic.Mnemonic.the-variants.{OfSetting}
 use Rattle.settings.specs.declared.rows.Row.{Row}
 use Rattle.settings.specs.declared.Settings.{Settings}
-use Rattle.ground.specs.Members.{Each}
-use Rattle.ground.proofs.Members.{each-both, each-take, each-drop, map-each}
-use Rattle.settings.proofs.Storing.{Holding, mixed-front, stored-row, stored-others, stored-shaped, upto-three}
+use Rattle.settings.proofs.Storing.{Holding, mixed-front, stored-row, stored-others, stored-shaped}
 use Rattle.settings.proofs.Sheets.{sheet-holding, on-sheet, Distinct, sheet-distinct, distinct-cut, distinct-take, few, cells-row, sheet-decides}
 use Rattle.settings.proofs.StoredLimits.{fitting-canon}
 use Rattle.lines.specs.Judging.{rowOf, judged, effect}

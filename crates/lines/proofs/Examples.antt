@@ -24,6 +24,7 @@ use Rattle.settings.specs.declared.mnemonic.Setting.the-variants.{Cal}
 use Rattle.settings.specs.declared.mnemonic.Mnemonic.the-variants.{OfSetting, Cf}
 use Rattle.settings.specs.declared.kinds.Limits.{Limits}
 use Rattle.settings.specs.declared.Settings.{Settings}
+use Rattle.settings.proofs.Sheets.{others-each}
 use Rattle.lines.specs.Splitting.{fields, joined}
 use Rattle.lines.specs.Fields.{errorWord, limited, ranged, thresholdField}
 use Rattle.lines.specs.Judging.{fieldsRead, formed, valued, withFields, judged}
@@ -33,7 +34,6 @@ use Rattle.lines.specs.declared.verdict.Field.{Field}
 use Rattle.lines.specs.declared.verdict.Field.the-variants.{Held, Malformed, Faulty}
 use Rattle.lines.specs.declared.verdict.Verdict.{Verdict}
 use Rattle.lines.specs.declared.verdict.Verdict.the-variants.{Asks, Writes, Refused}
-use Rattle.settings.proofs.Sheets.{others-each}
 use Rattle.lines.proofs.Accepted.{Spelt, all-spelt, line-fields, plain-texts}
 
 -- a verdict in words: what it asks for, what it writes as a reply would say it, or the error word

@@ -9,10 +9,12 @@ use borrow.Author.Tests.{ltb-true, ne-eqb}
 use lib.ListN.{length}
 use lib.Dec.{eqb, leb, ltb}
 use lib.IntN.{ℤ, pos, negsuc, natAbs}
+use Rattle.ground.specs.Members.{Each}
+use Rattle.ground.proofs.Cases.{in-range, cond-cases}
+use Rattle.ground.proofs.Members.{each-append}
 use Rattle.text.specs.Digits.{dig, bare, wholeText, factorText}
 use Rattle.numbers.specs.Numbers.{between}
 use Rattle.numbers.specs.declared.threshold.Threshold.{Threshold}
-use Rattle.ground.proofs.Cases.{in-range, cond-cases}
 use Rattle.numerals.specs.Whole.{wholeOf, factorOf}
 use Rattle.numerals.specs.Writing.{signByte, scientific}
 use Rattle.numerals.specs.declared.whole.Numeral.{Numeral}
@@ -22,8 +24,6 @@ use Rattle.settings.specs.Limits.{inside, fits}
 use Rattle.settings.specs.declared.kinds.Limits.{Limits}
 use Rattle.settings.specs.declared.kinds.Kind.{Kind}
 use Rattle.settings.specs.declared.kinds.Kind.the-variants.{OfWhole, OfFactor, OfThreshold}
-use Rattle.ground.specs.Members.{Each}
-use Rattle.ground.proofs.Members.{each-append}
 use Rattle.settings.proofs.Places.{fits-plain}
 use Rattle.lines.specs.Fields.{limited, ranged, thresholdField, read, write}
 use Rattle.lines.specs.declared.verdict.Field.the-variants.{Held}

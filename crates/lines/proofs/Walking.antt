@@ -10,9 +10,11 @@ use borrow.Author.Tests.{eq-eqb, ne-eqb, lt-ltb, le-ltb}
 use lib.ListN.{length, getD, take, drop, drop-of-length-le, length-drop}
 use lib.Seq.{drop-cons, drop-drop}
 use lib.Dec.{eqb, ltb}
-use Rattle.numerals.specs.Runs.{part}
 use Rattle.ground.proofs.Cases.{below, cond-cases}
+use Rattle.text.specs.Spans.{until}
+use Rattle.text.proofs.Marks.{until-few}
 use Rattle.numbers.specs.declared.threshold.Threshold.{Threshold}
+use Rattle.numerals.specs.Runs.{part}
 use Rattle.settings.specs.Models.{channels}
 use Rattle.settings.specs.Mnemonics.{recognised, channelOf}
 use Rattle.settings.specs.Kinds.{kinds, packed}
@@ -27,8 +29,6 @@ use Rattle.settings.specs.declared.kinds.Kind.the-variants.{OfThreshold}
 use Rattle.settings.specs.declared.kinds.Kinds.{Kinds}
 use Rattle.settings.proofs.Names.{not-three}
 use Rattle.settings.proofs.Sheets.{few}
-use Rattle.text.specs.Spans.{until}
-use Rattle.text.proofs.Marks.{until-few}
 use Rattle.lines.specs.Splitting.{fields, onFirst, word, behind}
 use Rattle.lines.specs.Fields.{read}
 use Rattle.lines.specs.Judging.{fieldsRead, formed, valued, judgedFields, alone, withFields, named, parted, judged}

@@ -8,8 +8,9 @@ use native.Mathlib.Omega.{arith}
 use borrow.Author.Tests.{ltb-true, eqb-true, lt-ltb, le-ltb}
 use lib.ListN.{length, getD, drop, List·getD-eq-default}
 use lib.Dec.{eqb, leb, ltb}
-use Rattle.numbers.specs.declared.threshold.Threshold.{Threshold}
+use Rattle.ground.specs.Members.{Each}
 use Rattle.ground.proofs.Cases.{below, cond-cases, never}
+use Rattle.numbers.specs.declared.threshold.Threshold.{Threshold}
 use Rattle.numerals.specs.Runs.{lead, rest, headIs}
 use Rattle.numerals.specs.Whole.{numberOf, wholeOf, factorOf}
 use Rattle.numerals.specs.Exponential.{afterPlus, composed, fraction, afterFraction, thresholdOf}
@@ -33,7 +34,6 @@ use Rattle.settings.specs.declared.kinds.Kind.{Kind}
 use Rattle.settings.specs.declared.kinds.Kind.the-variants.{OfWhole, OfFactor, OfThreshold}
 use Rattle.settings.specs.declared.rows.Row.{Row}
 use Rattle.settings.specs.declared.Settings.{Settings}
-use Rattle.ground.specs.Members.{Each}
 use Rattle.settings.proofs.Places.{cell, places-row}
 use Rattle.settings.proofs.Storing.{Holding, stored-shaped}
 use Rattle.settings.proofs.Sheets.{sheet-holding, known-each}

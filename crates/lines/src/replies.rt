@@ -2,10 +2,10 @@
 ghost use mathlib.Core.Path.{_≡_};
 ghost use mathlib.Core.List.{_++_};
 ghost use Rattle.text.specs.Page.{page, puts};
+ghost use Rattle.text.specs.Control.{crLf};
 ghost use Rattle.lines.specs.Fields.{write};
 ghost use Rattle.lines.specs.Replies.{settingText, factorsText};
 ghost use Rattle.lines.specs.Walk.{more};
-ghost use Rattle.text.specs.Control.{crLf};
 use numbers::threshold::Threshold;
 use numerals::writing::write_threshold;
 use settings::Settings;

@@ -9,12 +9,12 @@ use borrow.Author.Tests.{eqb-true, eqb-false, ne-eqb}
 use lib.Dec.{eqb}
 use lib.IntN.{ℤ, pos, natAbs, _+ℤ_, _-ℤ_, +ℤ-idr, -ℤ-+ℤ-cancel, +ℤ-negℤ-cancel}
 use Rattle.ground.proofs.Cases.{below, cond-cases}
-use Rattle.numbers.proofs.Climb.{climb-reaches, climb-enough, climb-none, climb-short}
-use Rattle.numbers.proofs.Signed.{abs-add, abs-minus}
-use Rattle.numbers.proofs.Fractions.{tens-some, tenths-some, tens-more, tens-apart, tens-level}
 use Rattle.numbers.specs.Numbers.{tens, tenths}
 use Rattle.numbers.specs.Rounding.{nearest, up, down, five, power, rounded, Nearest}
 use Rattle.numbers.specs.declared.threshold.Threshold.{Threshold}
+use Rattle.numbers.proofs.Climb.{climb-reaches, climb-enough, climb-none, climb-short}
+use Rattle.numbers.proofs.Signed.{abs-add, abs-minus}
+use Rattle.numbers.proofs.Fractions.{tens-some, tenths-some, tens-more, tens-apart, tens-level}
 
 -- the quotient, or one more where the remainder is at least half of d
 module _ (n d : ℕ) (h : 0 < d) where

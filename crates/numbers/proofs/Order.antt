@@ -12,14 +12,14 @@ use lib.Signed.{ltZ, leZ, nonNeg, pos-natAbs}
 use mir.Syntax.{w32}
 use mir.Val.{Fits, SFits, toZ, ofZ}
 use mir.Facts.{toZ-ofZ, fits-natAbs}
-use Rattle.ground.proofs.Cases.{below, in-range}
-use Rattle.numbers.proofs.Stops.{stops-digits}
-use Rattle.numbers.proofs.Fractions.{tens-some, tenths-some}
+use Rattle.ground.proofs.Cases.{below, in-range, and-both, and-not-both}
 use Rattle.numbers.specs.Numbers.{isNumber, withinStops, tens, tenths, less, isBelow, isAbove}
 use Rattle.numbers.specs.declared.threshold.Threshold.{Threshold}
 use Rattle.numbers.specs.declared.value.Value.{Value}
+use Rattle.numbers.proofs.Stops.{stops-digits}
+use Rattle.numbers.proofs.Fractions.{tens-some, tenths-some}
 
--- no number is both below and above another
+-- no number is and-both below and above another
 lt-not-gt : (a b : ℤ) → ltZ a b ≡ true → ltZ b a ≡ false
 lt-not-gt (pos a) (pos b) h = le-ltb b a (omega (arith, ltb-true a b h))
 lt-not-gt (pos a) (negsuc b) h = absurd (subst T (sym h) tt)
@@ -98,24 +98,17 @@ not-zero : (z : ℤ) → leZ z (pos 0) ≡ false → natAbs z ≡ 0 → ⊥
 not-zero (pos n) h q = omega (arith, leb-false n 0 h)
 not-zero (negsuc n) h q = subst T h tt
 
-both : (a b c : Bool) → a ≡ true → b ≡ true → a && (b && c) ≡ c
-both a b c h k = rw (h, k)
-
-not-both : (a b c : Bool) → a && b ≡ false → a && (b && c) ≡ false
-not-both true b c h = rw h
-not-both false b c h = refl
-
 module _ (v : Value) (t : Threshold) where
   -- below and above are the order of the numbers
   pub below-is-less : isNumber v ≡ true → withinStops t ≡ true → isBelow v t ≡ less (v .mantissa) (v .exponent) (pos (t .mantissa)) (t .exponent)
   unfolding isBelow
-  below-is-less h k = both (isNumber v) (withinStops t) _ h k
+  below-is-less h k = and-both (isNumber v) (withinStops t) _ h k
 
   pub above-is-less : isNumber v ≡ true → withinStops t ≡ true → isAbove v t ≡ less (pos (t .mantissa)) (t .exponent) (v .mantissa) (v .exponent)
   unfolding isAbove
-  above-is-less h k = both (isNumber v) (withinStops t) _ h k
+  above-is-less h k = and-both (isNumber v) (withinStops t) _ h k
 
-  -- and nothing is both
+  -- and nothing is and-both
   pub below-not-above : isBelow v t ≡ true → isAbove v t ≡ false
   unfolding isBelow
   below-not-above h =
@@ -189,8 +182,8 @@ module _ {v : Value} {t : Threshold} {n w : Bool} (beside : Beside v t n w) wher
 
   pub no-below : n && w ≡ false → false ≡ isBelow v t
   unfolding isBelow
-  no-below h = sym (not-both (isNumber v) (withinStops t) _ (rw (beside .number, beside .within) at h))
+  no-below h = sym (and-not-both (isNumber v) (withinStops t) _ (rw (beside .number, beside .within) at h))
 
   pub no-above : n && w ≡ false → false ≡ isAbove v t
   unfolding isAbove
-  no-above h = sym (not-both (isNumber v) (withinStops t) _ (rw (beside .number, beside .within) at h))
+  no-above h = sym (and-not-both (isNumber v) (withinStops t) _ (rw (beside .number, beside .within) at h))

@@ -8,11 +8,11 @@ use native.Mathlib.Nat.{mul-le-mul, mul-one}
 use lib.Dec.{leb}
 use lib.IntN.{ℤ, pos, negsuc, natAbs, _-ℤ_}
 use Rattle.ground.proofs.Cases.{in-range, true-or-false}
-use Rattle.numbers.proofs.Signed.{abs-minus, abs-neg, between-near}
 use Rattle.numbers.specs.Numbers.{fiveDigits, between, isFive, signed}
 use Rattle.numbers.specs.Rounding.{isUsable, product, scaledBy, Nearest}
 use Rattle.numbers.specs.declared.value.Value.{Value}
 use Rattle.numbers.specs.declared.value.Ratio.{Ratio}
+use Rattle.numbers.proofs.Signed.{abs-minus, abs-neg, between-near}
 use Rattle.numbers.proofs.Nearest.{rounded-five, rounded-near, rounded-nearest, round-exact}
 
 abs-signed : (z : ℤ) (m : ℕ) → natAbs (signed z m) ≡ m

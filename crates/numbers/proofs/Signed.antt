@@ -10,8 +10,8 @@ use lib.IntN.{ℤ, pos, negsuc, negℤ, natAbs, subℕ, _+ℤ_, _-ℤ_, +ℤ-idl
 use lib.Signed.{mag, ltZ, nonNeg, natAbs-le}
 use mir.Syntax.{w32, w64}
 use mir.Val.{SFits}
-use Rattle.numbers.specs.Numbers.{between}
 use Rattle.ground.proofs.Cases.{below, true-or-false}
+use Rattle.numbers.specs.Numbers.{between}
 
 mag-le : (z : ℤ) → mag z ≤ natAbs z
 mag-le (pos n) = omega arith

@@ -8,13 +8,13 @@ use borrow.Author.Tests.{eq-eqb, ne-eqb, eqb-false}
 use lib.Dec.{eqb}
 use lib.IntN.{ℤ, pos, negsuc, natAbs}
 use Rattle.ground.proofs.Cases.{true-or-false, cond-cases, in-range}
-use Rattle.numbers.proofs.Nearest.{rounded-far, rounded-nearest}
-use Rattle.numbers.proofs.Signed.{between-near, between-far}
 use Rattle.numbers.specs.Numbers.{fiveDigits, between, withinStops}
 use Rattle.numbers.specs.Rounding.{rounded, heldToStops, fittedTo, Nearest}
 use Rattle.numbers.specs.declared.threshold.Threshold.{Threshold}
 use Rattle.numbers.specs.declared.threshold.Fitted.{Fitted}
 use Rattle.numbers.specs.declared.threshold.Fitted.the-variants.{Fits, Outside}
+use Rattle.numbers.proofs.Nearest.{rounded-far, rounded-nearest}
+use Rattle.numbers.proofs.Signed.{between-near, between-far}
 
 pub stops-digits : (t : Threshold) → withinStops t ≡ true → (10000 ≤ t .mantissa) × (t .mantissa ≤ 99999)
 stops-digits t h = in-range 10000 99999 (t .mantissa) (and-eq-true-iff (fiveDigits (t .mantissa)) (between (negsuc 19) (pos 20) (t .exponent)) .0 h .0)

@@ -5,8 +5,8 @@ use mathlib.Core.Bool.{true}
 use mathlib.Core.Logic.{⊎-elim}
 use lib.ListN.{List·getD-eq-default}
 use Rattle.ground.proofs.Tables.{everywhere}
-use Rattle.numbers.specs.Rounding.{isUsable}
 use Rattle.ground.proofs.Cases.{below}
+use Rattle.numbers.specs.Rounding.{isUsable}
 use Rattle.numbers.specs.Units.{ratio, units, fromHpa}
 
 pub usable : (unit : ℕ) → isUsable (fromHpa unit) ≡ true

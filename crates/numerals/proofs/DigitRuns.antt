@@ -7,12 +7,12 @@ use mathlib.Core.Logic.{⊎-elim}
 use native.Mathlib.Omega.{arith}
 use native.Mathlib.Nat.{pow-suc, pow-le-pow-right, lt-of-lt-of-le}
 use native.Mathlib.Numerals.{add-one}
-use borrow.Author.Tests.{le-leb, lt-leb, leb-true, eq-eqb, ne-eqb, eqb-true, eqb-false}
+use borrow.Author.Tests.{le-leb, lt-leb, leb-true}
 use lib.ListN.{length, getD, drop, take, drop-of-length-le, length-drop}
 use lib.Seq.{drop-cons, drop-drop, take-all, length-take-le}
 use lib.Dec.{T, leb, eqb}
+use Rattle.ground.proofs.Cases.{below, eqb-same}
 use Rattle.numerals.specs.Runs.{part, isDigit, lead, rest, headIs, value}
-use Rattle.ground.proofs.Cases.{below}
 
 module _ (i : ℕ) (s : List ℕ) where
   pub head-at : (c : ℕ) → i < length s → headIs c (drop i s) ≡ eqb (getD s i 0) c
@@ -163,14 +163,6 @@ lead-rest-length (b ∷ s) = length-by (isDigit b) b s (lead-rest-length s)
 -- how much is left behind the run that ends at p
 rest-length : (s : List ℕ) (a p : ℕ) → a ≤ length s → p ≡ a + length (lead (drop a s)) → length (rest (drop a s)) ≡ length s - p
 rest-length s a p h e = ap length (run-rest s a h p e) ∙ length-drop p s
-
--- two tests for equality that come to the same
-eqb-same : (a b c d : ℕ) → (a ≡ b → c ≡ d) → (c ≡ d → a ≡ b) → eqb a b ≡ eqb c d
-eqb-same a b c d f g = go (eqb a b) refl
-  where
-    go : (t : Bool) → eqb a b ≡ t → t ≡ eqb c d
-    go true e = sym (eq-eqb c d (f (eqb-true a b e)))
-    go false e = sym (ne-eqb c d (λ q. eqb-false a b e (g q)))
 
 -- nothing is left behind the run that ends at p exactly where p is the end
 pub run-all : (s : List ℕ) (a p : ℕ) → a ≤ length s → p ≡ a + length (lead (drop a s)) → eqb p (length s) ≡ eqb (length (rest (drop a s))) 0

@@ -5,8 +5,8 @@ use mathlib.Core.Path.{_≡_, refl}
 use mathlib.Core.List.{List, [], _∷_, map}
 use Rattle.text.specs.Text.{ascii}
 use Rattle.text.specs.Digits.{dig, bare, factorText}
-use Rattle.numerals.specs.Writing.{scientific, thresholdText}
 use Rattle.numbers.specs.Rounding.{climbWithin, five, power, rounded, fittedTo}
+use Rattle.numerals.specs.Writing.{scientific, thresholdText}
 use Rattle.numerals.specs.Runs.{lead, rest, headIs, value}
 use Rattle.numerals.specs.Whole.{numeralFault, numberOf, behindPoint, factorOf}
 use Rattle.numerals.specs.Exponential.{thresholdFault, afterPlus, afterSign, powerOf, composed, fraction, afterFraction, thresholdOf}

@@ -10,6 +10,8 @@ use borrow.Author.Tests.{eq-eqb, ne-eqb}
 use lib.ListN.{length, drop, length-drop}
 use lib.Dec.{eqb}
 use lib.IntN.{pos, natAbs}
+use Rattle.ground.proofs.Cases.{cond-cases, or-either}
+use Rattle.numbers.proofs.Signed.{abs-neg}
 use Rattle.numerals.specs.Runs.{headIs}
 use Rattle.numerals.specs.Whole.{numberOf}
 use Rattle.numerals.specs.Exponential.{withSign, afterSign, signedPower, powerOf}
@@ -17,9 +19,7 @@ use Rattle.numerals.specs.declared.exponential.Power.{Power}
 use Rattle.numerals.specs.declared.exponential.Power.the-variants.{Ten, NoPower}
 use Rattle.numerals.specs.declared.whole.Numeral.{Numeral}
 use Rattle.numerals.specs.declared.whole.Numeral.the-variants.{Number, NoNumber}
-use Rattle.ground.proofs.Cases.{cond-cases, or-either}
 use Rattle.numerals.proofs.DigitRuns.{drop-one, head-in}
-use Rattle.numbers.proofs.Signed.{abs-neg}
 use Rattle.numerals.proofs.Wholes.{number-read}
 
 module _ (i : ℕ) (s : List ℕ) where

@@ -12,16 +12,16 @@ use lib.Arith.{mod-mul}
 use lib.Dec.{eqb}
 use lib.ListN.{length}
 use lib.IntN.{ℤ, pos, negsuc, natAbs, _-ℤ_}
-use Rattle.text.specs.Digits.{dig, bare, wholeText, factorText}
 use Rattle.ground.proofs.Cases.{below}
+use Rattle.text.specs.Digits.{dig, bare, wholeText, factorText}
 use Rattle.text.proofs.Decimals.{dig-length}
 use Rattle.numbers.specs.Numbers.{withinStops}
-use Rattle.numerals.specs.Writing.{signByte, scientific, thresholdText}
 use Rattle.numbers.specs.Rounding.{fittedTo}
 use Rattle.numbers.specs.declared.threshold.Threshold.{Threshold}
 use Rattle.numbers.specs.declared.threshold.Fitted.the-variants.{Fits}
 use Rattle.numbers.proofs.Nearest.{round-exact}
 use Rattle.numbers.proofs.Stops.{stops-digits, stops-near, fitted-within}
+use Rattle.numerals.specs.Writing.{signByte, scientific, thresholdText}
 use Rattle.numerals.specs.Runs.{isDigit, lead, rest, headIs, value}
 use Rattle.numerals.specs.Whole.{numberOf, wholeOf, behindPoint, factorOf}
 use Rattle.numerals.specs.Exponential.{afterPlus, afterSign, powerOf, fittedNumeral, weighed, composed, fraction, afterFraction, thresholdOf}

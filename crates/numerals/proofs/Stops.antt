@@ -8,18 +8,18 @@ use native.Mathlib.Omega.{arith}
 use lib.ListN.{length, drop}
 use lib.IntN.{ℤ, pos, _-ℤ_}
 use Rattle.ground.proofs.Cases.{cond-cases, in-range, never}
-use Rattle.numbers.proofs.Stops.{fitted-stops, fitted-nearest}
 use Rattle.numbers.specs.Numbers.{withinStops}
 use Rattle.numbers.specs.Rounding.{fittedTo, Nearest}
 use Rattle.numbers.specs.declared.threshold.Threshold.{Threshold}
 use Rattle.numbers.specs.declared.threshold.Fitted.{Fitted}
 use Rattle.numbers.specs.declared.threshold.Fitted.the-variants.{Fits, Outside}
-use Rattle.numerals.proofs.DigitRuns.{AllDigits, lead-digits, digits-join, value-below}
+use Rattle.numbers.proofs.Stops.{fitted-stops, fitted-nearest}
 use Rattle.numerals.specs.Runs.{lead, rest, headIs, lengthIn, value}
 use Rattle.numerals.specs.Exponential.{afterPlus, fraction, powerOf, fittedNumeral, weighed, composed, wholePart, fractionPart, powerPart, thresholdOf}
 use Rattle.numerals.specs.declared.exponential.ThresholdNumeral.the-variants.{Within, NoThreshold}
 use Rattle.numerals.specs.declared.exponential.Power.{Power}
 use Rattle.numerals.specs.declared.exponential.Power.the-variants.{Ten, NoPower}
+use Rattle.numerals.proofs.DigitRuns.{AllDigits, lead-digits, digits-join, value-below}
 
 fits-of : (f : Fitted) (t : Threshold) → fittedNumeral f ≡ Within t → f ≡ Fits t
 fits-of (Fits u) t r = ap Fits (let same : u ≡ t = cc in same)

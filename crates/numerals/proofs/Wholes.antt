@@ -8,10 +8,10 @@ use native.Mathlib.Omega.{arith}
 use borrow.Author.Tests.{le-leb, leb-true, eq-eqb, ne-eqb, eqb-true}
 use lib.ListN.{length, drop, length-drop}
 use lib.Dec.{leb, eqb}
+use Rattle.ground.proofs.Cases.{never}
 use Rattle.numerals.specs.Runs.{lead, rest, headIs, lengthIn, value}
 use Rattle.numerals.specs.Whole.{numberOf, thousandths, behindPoint, factorOf}
 use Rattle.numerals.specs.declared.whole.Numeral.the-variants.{Number, NoNumber}
-use Rattle.ground.proofs.Cases.{never}
 use Rattle.numerals.proofs.DigitRuns.{drop-one, lead-digits, value-below, lead-rest-length}
 
 module _ (most : ℕ) (s : List ℕ) where

@@ -8,11 +8,11 @@ use mathlib.Core.Bool.{Bool, cond, _||_}
 use lib.ListN.{length, drop}
 use lib.Dec.{eqb}
 use lib.IntN.{pos, negℤ, _-ℤ_}
-use Rattle.numerals.specs.Runs.{lead, rest, headIs, lengthIn, value}
-use Rattle.numerals.specs.Whole.{numberOf}
 use Rattle.numbers.specs.Rounding.{fittedTo}
 use Rattle.numbers.specs.declared.threshold.Fitted.{Fitted}
 use Rattle.numbers.specs.declared.threshold.Fitted.the-variants.{Fits, Outside}
+use Rattle.numerals.specs.Runs.{lead, rest, headIs, lengthIn, value}
+use Rattle.numerals.specs.Whole.{numberOf}
 use Rattle.numerals.specs.declared.exponential.ThresholdNumeral.{ThresholdNumeral}
 use Rattle.numerals.specs.declared.exponential.ThresholdNumeral.the-variants.{Within, NoThreshold, OutOfRange}
 use Rattle.numerals.specs.declared.exponential.Power.{Power}

@@ -11,9 +11,9 @@ use borrow.Author.Tests.{lt-ltb, le-ltb, lt-leb, le-leb, ne-eqb, eqb-true, eqb-f
 use lib.ListN.{length, getD, set, drop, drop-of-length-le}
 use lib.Seq.{drop-cons}
 use lib.Dec.{eqb, leb, ltb}
-use Rattle.text.specs.Control.{isCharacter}
 use Rattle.ground.specs.Ranges.{inRange}
-use Rattle.ground.proofs.Cases.{never, below, in-range}
+use Rattle.ground.proofs.Cases.{never, below, in-range, either, neither}
+use Rattle.text.specs.Control.{isCharacter}
 use Rattle.settings.specs.Mnemonics.{isErr}
 use Rattle.settings.specs.declared.model.Model.{Model}
 use Rattle.settings.specs.declared.mnemonic.Mnemonic.{Mnemonic}
@@ -43,14 +43,6 @@ module _ (input : List ℕ) (i : ℕ) where
   typing-end h = rw (drop-of-length-le input {i = i} h)
 
 -- ---- one byte
-
-either : {A : Type 0} (s t : Bool) (x y : A) → not s && not t ≡ false → cond s x (cond t x y) ≡ x
-either true t x y h = refl
-either false true x y h = refl
-either false false x y h = never (cc)
-
-neither : (s t : Bool) → not s && not t ≡ true → (s ≡ false) × (t ≡ false)
-neither s t h = let b = and-eq-true-iff (not s) (not t) .0 h in (not-true s (b .0), not-true t (b .1))
 
 -- the characters begin behind the space, so that one range has both
 pub typed-range : (b : ℕ) → inRange 32 126 b ≡ isTyped b

@@ -7,8 +7,9 @@ use native.Mathlib.Omega.{arith}
 use borrow.Author.Tests.{le-ltb, ne-eqb}
 use lib.ListN.{take, drop}
 use lib.Dec.{eqb, leb, ltb}
-use Rattle.ground.proofs.Cases.{cond-cases}
 use Rattle.ground.specs.Members.{every}
+use Rattle.ground.specs.Ranges.{inRange}
+use Rattle.ground.proofs.Cases.{cond-cases}
 use Rattle.settings.specs.declared.model.Model.{Model}
 use Rattle.settings.specs.declared.mnemonic.Query.the-variants.{Sps, Err}
 use Rattle.settings.specs.declared.mnemonic.Mnemonic.{Mnemonic}
@@ -21,7 +22,6 @@ use Rattle.ports.specs.Stream.{withStream, ticked}
 use Rattle.ports.specs.Hearing.{kindOf, freshPort, concluded, worded, replied, asked, quiet, byKind, heard}
 use Rattle.ports.specs.Walk.{again, settled, isTyped, typedOne, typedAll}
 use Rattle.ports.specs.Limits.{lineWithin, isInterval, portWithin}
-use Rattle.ground.specs.Ranges.{inRange}
 use Rattle.ports.specs.declared.Port.{Port}
 use Rattle.ports.specs.declared.Selection.the-variants.{Nothing, Chosen}
 

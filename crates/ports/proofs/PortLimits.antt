@@ -1,8 +1,8 @@
 -- No byte and no tick takes a port out of its limits; what it makes of a line, and what it answers.
 use Prim.Native.Nat.{ℕ, zero, suc, _+_, _≤_, _<_}
 use mathlib.Core.Path.{_≡_, refl, sym, ap, subst}
-use mathlib.Core.List.{List, [], _∷_, _++_}
-use mathlib.Core.Bool.{Bool, true, false, cond, _&&_, _||_, and-eq-true-iff}
+use mathlib.Core.List.{List, [], _∷_}
+use mathlib.Core.Bool.{Bool, true, false, cond, _&&_, and-eq-true-iff}
 use mathlib.Core.Logic.{_≢_}
 use native.Mathlib.Omega.{arith}
 use native.Mathlib.Numerals.{add-one}
@@ -11,10 +11,12 @@ use lib.ListN.{length, getD, set, take, drop, length-set}
 use lib.Seq.{drop-cons, drop-set-lt, take-suc-set}
 use lib.Dec.{eqb, leb, ltb}
 use lib.IntN.{pos}
-use Rattle.numbers.specs.Numbers.{between}
+use Rattle.ground.specs.Members.{every}
+use Rattle.ground.specs.Ranges.{inRange}
 use Rattle.ground.proofs.Members.{every-snoc}
 use Rattle.ground.proofs.Cases.{never, cond-cases, in-range}
-use Rattle.ground.specs.Members.{every}
+use Rattle.text.specs.Control.{isCharacter}
+use Rattle.numbers.specs.Numbers.{between}
 use Rattle.settings.specs.Mnemonics.{isErr, hasReply, answers}
 use Rattle.settings.specs.Kinds.{whole, kinds}
 use Rattle.settings.specs.Limits.{fits}
@@ -38,11 +40,9 @@ use Rattle.lines.proofs.WrittenLimits.{writes-fitting}
 use Rattle.lines.proofs.Answerable.{asks-answers, writes-answers}
 use Rattle.ports.specs.Line.{blank, withLine, emptied, spoilt, grown, held, isEmpty}
 use Rattle.ports.specs.Stream.{intervalOf, withStream, stopped, begun, ticked}
-use Rattle.text.specs.Control.{isCharacter}
 use Rattle.ports.specs.Hearing.{isDropped, kindOf, freshPort, withMark, withChoice, selected, concluded, crHeard, worded, replied, bySelection, asked, quiet, byKind, heard}
 use Rattle.ports.specs.Walk.{settled}
 use Rattle.ports.specs.Limits.{lineWithin, isInterval, streamWithin, selectionWithin, portWithin, PortShaped}
-use Rattle.ground.specs.Ranges.{inRange}
 use Rattle.ports.specs.declared.Port.{Port}
 use Rattle.ports.specs.declared.Selection.{Selection}
 use Rattle.ports.specs.declared.Selection.the-variants.{Nothing, Chosen}

@@ -8,11 +8,12 @@ use native.Mathlib.Omega.{arith}
 use borrow.Author.Tests.{lt-ltb, le-ltb}
 use lib.ListN.{length, replicate, drop-of-length-le, List·getD-eq-default}
 use lib.Dec.{ltb}
-use Rattle.text.specs.Text.{ascii}
+use Rattle.ground.specs.Members.{every, Each}
 use Rattle.ground.proofs.Tables.{entries, everywhere}
 use Rattle.ground.proofs.Cases.{below}
+use Rattle.ground.proofs.Members.{each-map, every-each}
+use Rattle.text.specs.Text.{ascii}
 use Rattle.settings.specs.Models.{channels}
-use Rattle.ground.specs.Members.{every, Each}
 use Rattle.settings.specs.Mnemonics.{storedNames, known, name, same, found, recognised, channelOf, isKnown, hasReply, answers}
 use Rattle.settings.specs.declared.model.Model.{Model}
 use Rattle.settings.specs.declared.model.Model.the-variants.{Tpg361, Tpg362}
@@ -22,7 +23,6 @@ use Rattle.settings.specs.declared.mnemonic.Query.{Query}
 use Rattle.settings.specs.declared.mnemonic.Query.the-variants.{Sps, Pr, Prx, Tid, Ayt, Err}
 use Rattle.settings.specs.declared.mnemonic.Mnemonic.{Mnemonic}
 use Rattle.settings.specs.declared.mnemonic.Mnemonic.the-variants.{OfSetting, Cf, OfQuery}
-use Rattle.ground.proofs.Members.{each-map, every-each}
 use Rattle.settings.proofs.Names.{not-three}
 
 -- ---- settings by their numbers

@@ -6,10 +6,10 @@ use mathlib.Core.Bool.{true, false}
 use mathlib.Core.List.{List, [], _∷_, map}
 use lib.IntN.{negsuc}
 use lib.ListN.{drop, replicate}
-use Rattle.text.specs.Text.{ascii}
-use Rattle.ground.proofs.Tables.{entries}
-use Rattle.numbers.specs.declared.threshold.Threshold.{Threshold}
 use Rattle.ground.specs.Members.{every}
+use Rattle.ground.proofs.Tables.{entries}
+use Rattle.text.specs.Text.{ascii}
+use Rattle.numbers.specs.declared.threshold.Threshold.{Threshold}
 use Rattle.settings.specs.Models.{modelOf, channels, names, powerOnMode, startsOn, follows, agrees, defaults}
 use Rattle.settings.specs.Mnemonics.{sheet, sheetAt, settingName, known, same, found, recognised, channelOf, isErr}
 use Rattle.settings.specs.Kinds.{storedKinds}

@@ -1,5 +1,5 @@
 -- The table of names, and the search in it.
-use Prim.Native.Nat.{ℕ, zero, suc, _+_, _*_, _-_, _≤_, _<_}
+use Prim.Native.Nat.{ℕ, suc, _+_, _*_, _-_, _≤_, _<_}
 use mathlib.Core.Path.{_≡_, refl, sym, ap, _∙_}
 use mathlib.Core.List.{List, [], _∷_, _++_, map}
 use mathlib.Core.Bool.{Bool, true, false, _&&_, and-true, and-false, and-eq-true-iff}
@@ -9,10 +9,10 @@ use lib.ListN.{length, getD, drop, drop-of-length-le, List·getD-append, List·g
 use lib.Seq.{drop-cons, getD-append-add}
 use lib.Dec.{eqb}
 use borrow.Author.Tests.{eqb-true}
-use Rattle.text.specs.Text.{ascii}
-use Rattle.ground.proofs.Tables.{tabled}
-use Rattle.settings.specs.Mnemonics.{sheet, sheetAt, others, known, knownAt, name, same, found, recognised}
 use Rattle.ground.specs.Members.{every}
+use Rattle.ground.proofs.Tables.{tabled}
+use Rattle.text.specs.Text.{ascii}
+use Rattle.settings.specs.Mnemonics.{sheet, sheetAt, others, known, knownAt, name, same, found, recognised}
 use Rattle.settings.specs.declared.model.Model.{Model}
 use Rattle.settings.specs.declared.mnemonic.Setting.the-variants.{Uni}
 use Rattle.settings.specs.declared.mnemonic.Mnemonic.{Mnemonic}

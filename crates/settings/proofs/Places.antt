@@ -1,17 +1,17 @@
 -- A row within limits, place by place.
-use Prim.Native.Nat.{ℕ, zero, suc, _<_}
+use Prim.Native.Nat.{ℕ, _<_}
 use mathlib.Core.Path.{_≡_, ap}
 use mathlib.Core.List.{List}
-use mathlib.Core.Bool.{Bool, true, _&&_, and-eq-true-iff}
+use mathlib.Core.Bool.{Bool, true, and-eq-true-iff}
 use native.Mathlib.Omega.{arith}
 use borrow.Author.Tests.{eqb-true}
 use lib.ListN.{length, getD}
 use lib.Dec.{ltb, eqb}
 use lib.IntN.{ℤ, pos, negsuc}
-use Rattle.numbers.specs.Numbers.{between}
-use Rattle.numbers.specs.declared.threshold.Threshold.{Threshold}
 use Rattle.ground.proofs.Ranges.{upto-each}
 use Rattle.ground.proofs.Cases.{in-range, never}
+use Rattle.numbers.specs.Numbers.{between}
+use Rattle.numbers.specs.declared.threshold.Threshold.{Threshold}
 use Rattle.settings.specs.Rows.{plain, listed}
 use Rattle.settings.specs.Limits.{inside, sameCell, placeWithin, rowFits}
 use Rattle.settings.specs.declared.kinds.Limits.{Limits}

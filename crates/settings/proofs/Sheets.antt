@@ -9,14 +9,15 @@ use borrow.Author.Tests.{ltb-true, eqb-true, eqb-false, not-true}
 use lib.ListN.{length, getD, take, drop, length-take}
 use lib.Seq.{getD-take}
 use lib.Dec.{ltb, eqb}
+use Rattle.ground.specs.Members.{every, Each}
 use Rattle.ground.proofs.Tables.{alike}
-use Rattle.numbers.specs.declared.threshold.Threshold.{Threshold}
 use Rattle.ground.proofs.Cases.{true-or-false}
+use Rattle.ground.proofs.Members.{each-map, each-both, each-all, each-take, each-drop, each-at, every-each, each-every}
+use Rattle.numbers.specs.declared.threshold.Threshold.{Threshold}
 use Rattle.settings.specs.Models.{defaults}
 use Rattle.settings.specs.Mnemonics.{sheet, sheetAt, others, known}
 use Rattle.settings.specs.Kinds.{whole, factor, perChannel, kinds, storedKinds, storedTable}
 use Rattle.settings.specs.Rows.{plain, row, listed, fieldCount, cells}
-use Rattle.ground.specs.Members.{every, Each}
 use Rattle.settings.specs.Limits.{placeWithin, rowWithin, within, SettingsShaped}
 use Rattle.settings.specs.declared.model.Model.{Model}
 use Rattle.settings.specs.declared.model.Model.the-variants.{Tpg361, Tpg362}
@@ -28,7 +29,6 @@ use Rattle.settings.specs.declared.kinds.Kind.{Kind}
 use Rattle.settings.specs.declared.kinds.Kind.the-variants.{OfThreshold}
 use Rattle.settings.specs.declared.rows.Row.{Row}
 use Rattle.settings.specs.declared.Settings.{Settings}
-use Rattle.ground.proofs.Members.{each-map, each-both, each-all, each-take, each-drop, each-at, every-each, each-every}
 use Rattle.settings.proofs.Storing.{Holding, rows-decide}
 use Rattle.settings.proofs.Storing.Holding.{uni, fil, cal, dcd, sp, kept}
 use Rattle.settings.proofs.Places.{cell, same-cell, rows-same, row-places}

@@ -9,13 +9,14 @@ use borrow.Author.Tests.{eqb-true, eqb-false, lt-ltb}
 use lib.ListN.{length, getD, set}
 use lib.Seq.{getD-set-same, getD-set-other}
 use lib.Dec.{ltb, eqb}
+use Rattle.ground.specs.Members.{every, Each}
 use Rattle.ground.proofs.Tables.{entry}
-use Rattle.numbers.specs.declared.threshold.Threshold.{Threshold}
 use Rattle.ground.proofs.Cases.{true-or-false, never}
+use Rattle.ground.proofs.Members.{each-at, every-each}
+use Rattle.numbers.specs.declared.threshold.Threshold.{Threshold}
 use Rattle.settings.specs.Models.{channels, defaults}
 use Rattle.settings.specs.Kinds.{whole, factor, assignment, perChannel, storedTable, storedKinds, kinds}
 use Rattle.settings.specs.Rows.{plain, pairRow, row, listed, firstNumber, mixed, stored}
-use Rattle.ground.specs.Members.{every, Each}
 use Rattle.settings.specs.Limits.{fits, placeWithin, rowFits, rowWithin, within, SettingsShaped}
 use Rattle.settings.specs.declared.model.Model.{Model}
 use Rattle.settings.specs.declared.model.Model.the-variants.{Tpg361, Tpg362}
@@ -26,7 +27,6 @@ use Rattle.settings.specs.declared.kinds.Kind.{Kind}
 use Rattle.settings.specs.declared.kinds.Kind.the-variants.{OfWhole, OfFactor, OfThreshold}
 use Rattle.settings.specs.declared.rows.Row.{Row}
 use Rattle.settings.specs.declared.Settings.{Settings}
-use Rattle.ground.proofs.Members.{each-at, every-each}
 use Rattle.settings.proofs.Storing.{Holding, canon, stored-row, stored-others, factor-row, factor-others}
 use Rattle.settings.proofs.Storing.Holding.{uni, fil, cal, dcd, sp, kept}
 use Rattle.settings.proofs.Places.{same-cell, fits-plain, cell, placed, row-places, places-row}

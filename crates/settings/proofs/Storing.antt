@@ -8,6 +8,7 @@ use native.Mathlib.Omega.{arith}
 use lib.ListN.{length, getD, set, take, length-set}
 use lib.Dec.{ltb}
 use lib.Seq.{getD-set-same, getD-set-other, ext-getD}
+use Rattle.ground.proofs.Ranges.{upto-three}
 use Rattle.numbers.specs.declared.threshold.Threshold.{Threshold}
 use Rattle.settings.specs.Limits.{SettingsShaped}
 use Rattle.settings.specs.Rows.{plain, pairRow, noSwitching, cellsOf, row, listed, fieldCount, firstNumber, switchingOf, withRow, withFactors, mixed, stored}
@@ -73,14 +74,6 @@ nothing c = plain 0
 
 abbrev itself : Threshold → Threshold
 itself c = c
-
--- a row has three places
-pub upto-three : (P : ℕ → Type 0) → P 0 → P 1 → P 2 → P 3 → (m : ℕ) → m ≤ 3 → P m
-upto-three P a b c d zero h = a
-upto-three P a b c d (suc zero) h = b
-upto-three P a b c d (suc (suc zero)) h = c
-upto-three P a b c d (suc (suc (suc zero))) h = d
-upto-three P a b c d (suc (suc (suc (suc m)))) h = absurd (omega arith)
 
 module _ (n : ℕ) (r q : Row) where
   placewise : (f g h : Threshold → Threshold) → places f g h r ≡ r → places f g h q ≡ q → places f g h (mixed n r q) ≡ mixed n r q

@@ -6,11 +6,11 @@ use mathlib.Core.Bool.{Bool, _&&_}
 use native.Mathlib.Omega.{arith}
 use lib.ListN.{getD, take, drop, drop-of-length-le}
 use lib.Seq.{drop-cons}
+use Rattle.ground.specs.Members.{every}
 use Rattle.ground.proofs.Tables.{tabled}
+use Rattle.ground.proofs.Members.{every-append}
 use Rattle.settings.specs.Mnemonics.{sheet}
 use Rattle.settings.specs.Kinds.{whole, storedTable, storedKinds}
-use Rattle.ground.specs.Members.{every}
-use Rattle.ground.proofs.Members.{every-append}
 use Rattle.settings.specs.Limits.{rowWithin, within}
 use Rattle.settings.specs.declared.model.Model.{Model}
 use Rattle.settings.specs.declared.mnemonic.Setting.the-variants.{Uni, Stored}

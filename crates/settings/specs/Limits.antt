@@ -6,9 +6,9 @@ use mathlib.Core.Bool.{Bool, cond, _&&_}
 use lib.ListN.{length}
 use lib.Dec.{leb, ltb, eqb}
 use lib.IntN.{pos}
+use Rattle.ground.specs.Members.{every}
 use Rattle.numbers.specs.Numbers.{between, withinStops}
 use Rattle.numbers.specs.declared.threshold.Threshold.{Threshold}
-use Rattle.ground.specs.Members.{every}
 use Rattle.settings.specs.Models.{defaults}
 use Rattle.settings.specs.Mnemonics.{sheet}
 use Rattle.settings.specs.Kinds.{kinds, packed}

@@ -10,8 +10,8 @@ use borrow.Author.Tests.{le-leb, eq-eqb, ne-eqb}
 use lib.Dec.{eqb}
 use lib.ListN.{length, getD, drop, length-drop, drop-of-length-le}
 use lib.Seq.{drop-cons}
-use Rattle.text.specs.Digits.{dig, bare, wholeText}
 use Rattle.ground.proofs.Tables.{alike}
+use Rattle.text.specs.Digits.{dig, bare, wholeText}
 
 pub dig-length : (k n : ℕ) → length (dig k n) ≡ k
 dig-length zero n = refl

@@ -22,9 +22,9 @@ use Rattle.ports.proofs.Characters.{typing-more, typed-heard}
 use Rattle.instrument.specs.declared.Instrument.{Instrument}
 use Rattle.tpg.specs.Answers.{done, leastOutput}
 use Rattle.tpg.specs.Steps.{eventText, acted, hearing, next, sent, after, said, taken, over}
-use Rattle.tpg.proofs.Laying.{laidAt, over-more, over-length, laid-nothing, copied}
 use Rattle.tpg.specs.Calls.{hostText, hosted}
 use Rattle.tpg.specs.declared.State.{State}
+use Rattle.tpg.proofs.Laying.{laidAt, over-more, over-length, laid-nothing, copied}
 use Rattle.tpg.proofs.Sending.{event-length, sent-length}
 
 pub after-append : (xs ys : List ℕ) (s : State) → after s (xs ++ ys) ≡ after (after s xs) ys

@@ -14,9 +14,9 @@ use Rattle.instrument.specs.Replies.{streamText}
 use Rattle.instrument.proofs.Lengths.{stream-length}
 use Rattle.tpg.specs.Answers.{done, leastOutput}
 use Rattle.tpg.specs.Steps.{over}
-use Rattle.tpg.proofs.Laying.{laidAt, over-more, over-length, laid-nothing, copied}
 use Rattle.tpg.specs.Calls.{dueText, tickText, counted, tickCall, tickBytes, afterTicks, ticksText, allCounted, ticksCall, ticksBytes}
 use Rattle.tpg.specs.declared.State.{State}
+use Rattle.tpg.proofs.Laying.{laidAt, over-more, over-length, laid-nothing, copied}
 use Rattle.tpg.proofs.Sending.{tick-length}
 
 pub after-ticks-append : (m n : ℕ) (s : State) → afterTicks s (m + n) ≡ afterTicks (afterTicks s m) n

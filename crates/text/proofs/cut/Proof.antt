@@ -2,10 +2,10 @@
 use Prim.Native.Nat.{_≤_, _-_, _+_}
 use mathlib.Core.Path.{_≡_, refl, sym, ap, _∙_}
 use lib.ListN.{length, drop}
-use Rattle.text.specs.Page.{page, puts}
-use Rattle.text.proofs.Pages.{puts-next, puts-done}
 use borrow.Author.Needs.{needs}
 use native.Mathlib.Omega.{arith}
+use Rattle.text.specs.Page.{page, puts}
+use Rattle.text.proofs.Pages.{puts-next, puts-done}
 use Rattle.text.proofs.cut.Statement.{statement}
 use Rattle.text.proofs.cut.Tie as tie
 

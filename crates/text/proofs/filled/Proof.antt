@@ -1,12 +1,12 @@
 -- `text::filled`: the bytes put, and those still to put, are all of s.
 use Prim.Native.Nat.{_≤_, _-_, _+_}
-use mathlib.Core.Path.{_≡_, refl, sym, ap, _∙_}
+use mathlib.Core.Path.{_≡_, refl, sym, _∙_}
 use native.Mathlib.Nat.{add-zero}
 use lib.ListN.{length, length-set, drop}
-use Rattle.text.specs.Page.{page, puts}
-use Rattle.text.proofs.Pages.{puts-done, filled-next}
 use borrow.Author.Needs.{needs}
 use native.Mathlib.Omega.{arith}
+use Rattle.text.specs.Page.{page, puts}
+use Rattle.text.proofs.Pages.{puts-done, filled-next}
 use Rattle.text.proofs.filled.Statement.{statement}
 use Rattle.text.proofs.filled.Tie as tie
 

@@ -1,7 +1,7 @@
 -- `text::put`: one more byte where there is room for it.
 use mathlib.Core.Path.{sym}
-use Rattle.text.proofs.Pages.{put-more, put-full}
 use borrow.Author.Needs.{needs}
+use Rattle.text.proofs.Pages.{put-more, put-full}
 use Rattle.text.proofs.put.Statement.{statement}
 use Rattle.text.proofs.put.Tie as tie
 

@@ -8,8 +8,8 @@ use borrow.Author.Tests.{ltb-true}
 use denote.Ref.{now}
 use lib.ListN.{length}
 use lib.Dec.{ltb}
-use Rattle.frames.proofs.HexReading.{Read, start, step, spoilt, ended, not-read, too-long}
 use Rattle.text.proofs.HexDigits.{odd-not-hex}
+use Rattle.frames.proofs.HexReading.{Read, start, step, spoilt, ended, not-read, too-long}
 use Rattle.frames.proofs.frame.read.Statement.{statement}
 use Rattle.frames.proofs.frame.read.Tie as tie
 

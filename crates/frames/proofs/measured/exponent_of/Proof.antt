@@ -6,9 +6,9 @@ use lib.IntN.{pos, _-ℤ_}
 use mir.Syntax.{w32}
 use mir.Val.{SFits, toZ}
 use mir.Facts.{toZ-ofZ, toZ-pos}
-use Rattle.numbers.proofs.Signed.{small, abs-minus}
 use borrow.Author.Needs.{needs}
 use native.Mathlib.Omega.{arith}
+use Rattle.numbers.proofs.Signed.{small, abs-minus}
 use Rattle.frames.proofs.measured.exponent_of.Statement.{statement}
 use Rattle.frames.proofs.measured.exponent_of.Tie as tie
 

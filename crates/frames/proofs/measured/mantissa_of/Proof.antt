@@ -5,9 +5,9 @@ use lib.IntN.{pos, negℤ}
 use mir.Syntax.{w32}
 use mir.Val.{SFits, toZ}
 use mir.Facts.{toZ-ofZ, toZ-pos}
-use Rattle.numbers.proofs.Signed.{small, zero-minus, abs-neg}
 use borrow.Author.Needs.{needs}
 use native.Mathlib.Omega.{arith}
+use Rattle.numbers.proofs.Signed.{small, zero-minus, abs-neg}
 use Rattle.frames.proofs.measured.mantissa_of.Statement.{statement}
 use Rattle.frames.proofs.measured.mantissa_of.Tie as tie
 

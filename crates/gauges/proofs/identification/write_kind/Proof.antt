@@ -2,10 +2,10 @@
 use mathlib.Core.Path.{ap, sym, _∙_}
 use mathlib.Core.List.{[]}
 use lib.ListN.{List·getD-eq-default}
+use borrow.Author.Needs.{needs}
 use Rattle.text.specs.Page.{page, puts}
 use Rattle.gauges.specs.Identification.{kindNames}
 use Rattle.gauges.proofs.KindNames.{in-order, in-names, named}
-use borrow.Author.Needs.{needs}
 use Rattle.gauges.proofs.identification.write_kind.Statement.{statement}
 use Rattle.gauges.proofs.identification.write_kind.Tie as tie
 

@@ -1,12 +1,12 @@
 -- `shown::write_shown`: the status, a comma and the value's bytes; one digit is the whole number (`whole-digit`).
 use mathlib.Core.Path.{ap, _∙_}
 use mathlib.Core.List.{_∷_}
+use borrow.Author.Needs.{needs}
 use Rattle.text.specs.Digits.{wholeText}
 use Rattle.text.specs.Page.{page, puts}
 use Rattle.text.proofs.Pages.{then}
 use Rattle.text.proofs.Decimals.{whole-digit}
 use Rattle.numerals.specs.Writing.{scientific, valueText}
-use borrow.Author.Needs.{needs}
 use Rattle.gauges.proofs.shown.write_shown.Statement.{statement}
 use Rattle.gauges.proofs.shown.write_shown.Tie as tie
 

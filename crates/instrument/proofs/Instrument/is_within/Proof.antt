@@ -1,11 +1,11 @@
 -- Each callee gives one part of `instrumentWithin`; both readings stand in the array, so what stands for a missing one is the same (`entry`).
 use mathlib.Core.Path.{_≡_, sym, ap, _∙_}
 use lib.ListN.{length, length-map}
+use borrow.Author.Needs.{needs}
+use native.Mathlib.Omega.{arith}
 use Rattle.ground.proofs.Tables.{entry}
 use Rattle.gauges.specs.Readings.{noReading}
 use Rattle.instrument.specs.Limits.{readingWithin, instrumentWithin}
-use borrow.Author.Needs.{needs}
-use native.Mathlib.Omega.{arith}
 use Rattle.instrument.proofs.Instrument.is_within.Statement.{statement}
 use Rattle.instrument.proofs.Instrument.is_within.Tie as tie
 

@@ -1,6 +1,6 @@
 -- The callees give the readings and each switch as `taken` has them.
-use Rattle.instrument.specs.Events.{measured}
 use borrow.Author.Needs.{needs}
+use Rattle.instrument.specs.Events.{measured}
 use Rattle.instrument.proofs.Instrument.measured.Statement.{statement}
 use Rattle.instrument.proofs.Instrument.measured.Tie as tie
 

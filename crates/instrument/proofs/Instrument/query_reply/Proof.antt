@@ -1,9 +1,9 @@
 -- The text of the query and then the end of the line.
-use Rattle.text.specs.Page.{page}
-use Rattle.text.proofs.Pages.{then}
-use Rattle.text.specs.Control.{crLf}
-use Rattle.instrument.specs.Replies.{queryText}
 use borrow.Author.Needs.{needs}
+use Rattle.text.specs.Page.{page}
+use Rattle.text.specs.Control.{crLf}
+use Rattle.text.proofs.Pages.{then}
+use Rattle.instrument.specs.Replies.{queryText}
 use Rattle.instrument.proofs.Instrument.query_reply.Statement.{statement}
 use Rattle.instrument.proofs.Instrument.query_reply.Tie as tie
 

@@ -1,7 +1,7 @@
 -- The mnemonic tells the case.
 use mathlib.Core.Path.{_∙_}
-use Rattle.instrument.specs.Replies.{replyText}
 use borrow.Author.Needs.{needs}
+use Rattle.instrument.specs.Replies.{replyText}
 use Rattle.instrument.proofs.Instrument.reply.Statement.{statement}
 use Rattle.instrument.proofs.Instrument.reply.Tie as tie
 

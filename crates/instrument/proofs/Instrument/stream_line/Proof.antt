@@ -1,9 +1,9 @@
 -- The readings of all channels and then the end of the line.
-use Rattle.text.specs.Page.{page}
-use Rattle.text.proofs.Pages.{then}
-use Rattle.text.specs.Control.{crLf}
-use Rattle.instrument.specs.Replies.{streamText, eachChannel, shownAt}
 use borrow.Author.Needs.{needs}
+use Rattle.text.specs.Page.{page}
+use Rattle.text.specs.Control.{crLf}
+use Rattle.text.proofs.Pages.{then}
+use Rattle.instrument.specs.Replies.{streamText, eachChannel, shownAt}
 use Rattle.instrument.proofs.Instrument.stream_line.Statement.{statement}
 use Rattle.instrument.proofs.Instrument.stream_line.Tie as tie
 

@@ -1,6 +1,6 @@
 -- The callees give the settings, the saved set and the switches as `written` has them.
-use Rattle.instrument.specs.Events.{written}
 use borrow.Author.Needs.{needs}
+use Rattle.instrument.specs.Events.{written}
 use Rattle.instrument.proofs.Instrument.written.Statement.{statement}
 use Rattle.instrument.proofs.Instrument.written.Tie as tie
 

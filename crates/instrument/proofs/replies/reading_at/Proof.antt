@@ -1,10 +1,10 @@
 -- The entry of the array (`entry`), and past its end no reading (`List·getD-eq-default`).
 use mathlib.Core.Path.{_≡_, sym, _∙_}
 use lib.ListN.{length, List·getD-eq-default}
-use Rattle.ground.proofs.Tables.{entry}
-use Rattle.gauges.specs.Readings.{noReading}
 use borrow.Author.Needs.{needs}
 use native.Mathlib.Omega.{arith}
+use Rattle.ground.proofs.Tables.{entry}
+use Rattle.gauges.specs.Readings.{noReading}
 use Rattle.instrument.proofs.replies.reading_at.Statement.{statement}
 use Rattle.instrument.proofs.replies.reading_at.Tie as tie
 

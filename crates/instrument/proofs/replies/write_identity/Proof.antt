@@ -1,9 +1,9 @@
 -- The names, a comma, the serial number and the versions one after the other.
 use mathlib.Core.Path.{ap, _∙_}
+use borrow.Author.Needs.{needs}
 use Rattle.text.specs.Page.{Page, put, puts}
 use Rattle.text.specs.Digits.{paddedText}
 use Rattle.text.proofs.Pages.{puts-append}
-use borrow.Author.Needs.{needs}
 use Rattle.instrument.proofs.replies.write_identity.Statement.{statement}
 use Rattle.instrument.proofs.replies.write_identity.Tie as tie
 

@@ -1,9 +1,9 @@
 -- The first channel, and behind a comma the second where there is one (`puts-two`, `puts-one`).
 use mathlib.Core.Path.{ap, _∙_}
+use borrow.Author.Needs.{needs}
 use Rattle.text.specs.Page.{Page, page, put, puts}
 use Rattle.instrument.specs.Replies.{kindAt}
 use Rattle.instrument.proofs.Channels.{puts-two, puts-one}
-use borrow.Author.Needs.{needs}
 use Rattle.instrument.proofs.replies.write_kinds.Statement.{statement}
 use Rattle.instrument.proofs.replies.write_kinds.Tie as tie
 

@@ -2,13 +2,13 @@
 use mathlib.Core.Path.{_≡_, ap, _∙_}
 use native.Mathlib.Omega.{arith}
 use lib.ListN.{length}
-use Rattle.text.specs.Page.{Page, page, put, puts}
+use borrow.Author.Needs.{needs}
 use Rattle.ground.proofs.Tables.{entry}
+use Rattle.text.specs.Page.{Page, page, put, puts}
 use Rattle.gauges.specs.Readings.{noReading}
 use Rattle.gauges.specs.Shown.{shownOf, shownText}
 use Rattle.instrument.specs.Replies.{shownAt}
 use Rattle.instrument.proofs.Channels.{puts-two, puts-one}
-use borrow.Author.Needs.{needs}
 use Rattle.instrument.proofs.replies.write_readings.Statement.{statement}
 use Rattle.instrument.proofs.replies.write_readings.Tie as tie
 

@@ -3,10 +3,10 @@ use Prim.Native.Nat.{_≤_, _+_, _-_}
 use mathlib.Core.Path.{_≡_}
 use mathlib.Core.Logic.{⊎-elim}
 use lib.ListN.{length, drop}
-use Rattle.lines.specs.Splitting.{fields}
-use Rattle.lines.proofs.Walking.{fields-here, fields-on, fields-end}
 use borrow.Author.Needs.{needs}
 use native.Mathlib.Omega.{arith}
+use Rattle.lines.specs.Splitting.{fields}
+use Rattle.lines.proofs.Walking.{fields-here, fields-on, fields-end}
 use Rattle.lines.proofs.fields.count_fields.Statement.{statement}
 use Rattle.lines.proofs.fields.count_fields.Tie as tie
 

@@ -1,6 +1,6 @@
 -- A number from least to most is held; one above, up to the reach, lacks hardware; any other is inadmissible.
-use Rattle.lines.specs.Fields.{limited}
 use borrow.Author.Needs.{needs}
+use Rattle.lines.specs.Fields.{limited}
 use Rattle.lines.proofs.fields.limited.Statement.{statement}
 use Rattle.lines.proofs.fields.limited.Tie as tie
 

@@ -1,6 +1,6 @@
 -- The field before a comma, the last one, or none to be read (`taken-next`, `taken-last`, `taken-not`).
-use Rattle.lines.proofs.Walking.{taken-not, taken-next, taken-last}
 use borrow.Author.Needs.{needs}
+use Rattle.lines.proofs.Walking.{taken-not, taken-next, taken-last}
 use Rattle.lines.proofs.fields.take_field.Statement.{statement}
 use Rattle.lines.proofs.fields.take_field.Tie as tie
 

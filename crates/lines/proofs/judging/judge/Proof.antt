@@ -1,9 +1,9 @@
 -- What the word before the first comma names decides what the whole line is (`line-named`).
 use mathlib.Core.Path.{sym, _∙_}
-use Rattle.settings.specs.declared.mnemonic.Named.the-variants.{Known, Unknown}
-use Rattle.lines.proofs.Walking.{end-inside, line-named}
 use borrow.Author.Needs.{needs}
 use native.Mathlib.Omega.{arith}
+use Rattle.settings.specs.declared.mnemonic.Named.the-variants.{Known, Unknown}
+use Rattle.lines.proofs.Walking.{end-inside, line-named}
 use Rattle.lines.proofs.judging.judge.Statement.{statement}
 use Rattle.lines.proofs.judging.judge.Tie as tie
 

@@ -1,7 +1,7 @@
 -- As many fields as the mnemonic takes are judged (`fields-judged`); any other number is refused (`fields-wrong`).
 use mathlib.Core.Path.{sym, _∙_}
-use Rattle.lines.proofs.Walking.{fields-judged, fields-wrong}
 use borrow.Author.Needs.{needs}
+use Rattle.lines.proofs.Walking.{fields-judged, fields-wrong}
 use Rattle.lines.proofs.judging.judge_fields.Statement.{statement}
 use Rattle.lines.proofs.judging.judge_fields.Tie as tie
 

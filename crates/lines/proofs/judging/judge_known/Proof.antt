@@ -2,12 +2,12 @@
 use Prim.Native.Nat.{_<_, _≤_}
 use mathlib.Core.Path.{_∙_}
 use lib.ListN.{drop}
+use borrow.Author.Needs.{needs}
+use native.Mathlib.Omega.{arith}
 use Rattle.settings.specs.Models.{channels}
 use Rattle.settings.specs.Mnemonics.{channelOf}
 use Rattle.lines.specs.Splitting.{fields}
 use Rattle.lines.proofs.Walking.{known-more, known-alone, known-not}
-use borrow.Author.Needs.{needs}
-use native.Mathlib.Omega.{arith}
 use Rattle.lines.proofs.judging.judge_known.Statement.{statement}
 use Rattle.lines.proofs.judging.judge_known.Tie as tie
 

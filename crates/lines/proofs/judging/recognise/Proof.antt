@@ -3,11 +3,11 @@ use Prim.Native.Nat.{ℕ}
 use mathlib.Core.Path.{sym, ap, _∙_}
 use lib.ListN.{take}
 use lib.Seq.{length-take-le}
+use borrow.Author.Needs.{needs}
+use native.Mathlib.Omega.{arith}
 use Rattle.settings.specs.Mnemonics.{recognised}
 use Rattle.settings.proofs.Names.{not-three}
 use Rattle.lines.proofs.Walking.{three-front}
-use borrow.Author.Needs.{needs}
-use native.Mathlib.Omega.{arith}
 use Rattle.lines.proofs.judging.recognise.Statement.{statement}
 use Rattle.lines.proofs.judging.recognise.Tie as tie
 

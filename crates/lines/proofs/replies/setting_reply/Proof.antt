@@ -1,9 +1,9 @@
 -- The cells and then the end of the line.
+use borrow.Author.Needs.{needs}
 use Rattle.text.specs.Page.{page}
+use Rattle.text.specs.Control.{crLf}
 use Rattle.text.proofs.Pages.{then}
 use Rattle.lines.specs.Replies.{settingText}
-use Rattle.text.specs.Control.{crLf}
-use borrow.Author.Needs.{needs}
 use Rattle.lines.proofs.replies.setting_reply.Statement.{statement}
 use Rattle.lines.proofs.replies.setting_reply.Tie as tie
 

@@ -1,8 +1,8 @@
 -- A comma and then the cell.
 use mathlib.Core.Path.{ap, _∙_}
+use borrow.Author.Needs.{needs}
 use Rattle.text.specs.Page.{Page, puts}
 use Rattle.lines.specs.Fields.{write}
-use borrow.Author.Needs.{needs}
 use Rattle.lines.proofs.replies.write_more.Statement.{statement}
 use Rattle.lines.proofs.replies.write_more.Tie as tie
 

@@ -1,12 +1,11 @@
 -- The cells one after the other (`setting-written`); a setting that the model has no field for has no text.
 use mathlib.Core.Path.{sym, ap, _∙_}
 use lib.Dec.{ltb}
+use borrow.Author.Needs.{needs}
 use Rattle.text.specs.Page.{Page, page, puts}
 use Rattle.settings.specs.declared.kinds.Kinds.{Kinds}
-use Rattle.lines.specs.Fields.{write}
 use Rattle.lines.specs.Walk.{more}
 use Rattle.lines.proofs.Written.{setting-none, setting-written}
-use borrow.Author.Needs.{needs}
 use Rattle.lines.proofs.replies.write_setting.Statement.{statement}
 use Rattle.lines.proofs.replies.write_setting.Tie as tie
 

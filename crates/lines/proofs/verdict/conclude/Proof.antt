@@ -1,6 +1,6 @@
 -- The calls nest as `formed` and `valued` do: the form of all three fields decides before the value of any.
-use Rattle.lines.specs.Judging.{formed, valued}
 use borrow.Author.Needs.{needs}
+use Rattle.lines.specs.Judging.{formed, valued}
 use Rattle.lines.proofs.verdict.conclude.Statement.{statement}
 use Rattle.lines.proofs.verdict.conclude.Tie as tie
 

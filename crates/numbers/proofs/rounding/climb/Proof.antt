@@ -2,10 +2,10 @@
 use Prim.Native.Nat.{_≤_, _+_, _-_, _*_, _^_}
 use mathlib.Core.Path.{_≡_, sym}
 use native.Mathlib.Nat.{mul-one}
-use Rattle.numbers.specs.Rounding.{climbWithin, climb}
-use Rattle.numbers.proofs.Climb.{climb-more, climb-done, climb-end, ten-more}
 use borrow.Author.Needs.{needs}
 use native.Mathlib.Omega.{arith}
+use Rattle.numbers.specs.Rounding.{climbWithin, climb}
+use Rattle.numbers.proofs.Climb.{climb-more, climb-done, climb-end, ten-more}
 use Rattle.numbers.proofs.rounding.climb.Statement.{statement}
 use Rattle.numbers.proofs.rounding.climb.Tie as tie
 

@@ -1,9 +1,9 @@
 -- `rounding::nearest`: the remainder decides between the quotient and one more.
 use Prim.Native.Nat.{ℕ, _<_, _*_, _/_}
 use native.Mathlib.Nat.{mod-lt, le-of-lt, div-lt-iff-lt-mul}
-use Rattle.numbers.proofs.Nearest.{nearest-up, nearest-stay}
 use borrow.Author.Needs.{needs}
 use native.Mathlib.Omega.{arith}
+use Rattle.numbers.proofs.Nearest.{nearest-up, nearest-stay}
 use Rattle.numbers.proofs.rounding.nearest.Statement.{statement}
 use Rattle.numbers.proofs.rounding.nearest.Tie as tie
 

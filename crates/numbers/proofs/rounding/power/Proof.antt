@@ -4,9 +4,9 @@ use lib.IntN.{ℤ, pos, _+ℤ_, _-ℤ_}
 use mir.Syntax.{w32}
 use mir.Val.{SFits}
 use mir.Facts.{toZ-ofZ, toZ-pos}
-use Rattle.numbers.proofs.Signed.{small, abs-add, abs-minus}
 use borrow.Author.Needs.{needs}
 use native.Mathlib.Omega.{arith}
+use Rattle.numbers.proofs.Signed.{small, abs-add, abs-minus}
 use Rattle.numbers.proofs.rounding.power.Statement.{statement}
 use Rattle.numbers.proofs.rounding.power.Tie as tie
 

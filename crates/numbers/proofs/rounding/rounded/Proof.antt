@@ -6,12 +6,12 @@ use lib.IntN.{ℤ, pos, natAbs, _+ℤ_}
 use mir.Syntax.{w32}
 use mir.Val.{SFits}
 use mir.Facts.{toZ-ofZ}
+use borrow.Author.Needs.{needs}
+use native.Mathlib.Omega.{arith}
 use Rattle.numbers.specs.Rounding.{climb, nearest, five, power, rounded}
 use Rattle.numbers.specs.declared.rounding.Climbed.{Climbed}
 use Rattle.numbers.proofs.Nearest.{placed, power-near}
 use Rattle.numbers.proofs.Signed.{small, abs-add}
-use borrow.Author.Needs.{needs}
-use native.Mathlib.Omega.{arith}
 use Rattle.numbers.proofs.rounding.rounded.Statement.{statement}
 use Rattle.numbers.proofs.rounding.rounded.Tie as tie
 

@@ -9,16 +9,16 @@ use lib.IntN.{ℤ, pos, natAbs, _-ℤ_}
 use mir.Syntax.{w32}
 use mir.Val.{toZ, ofZ}
 use mir.Facts.{toZ-ofZ, toZ-pos}
+use borrow.Author.Needs.{needs}
+use native.Mathlib.Omega.{arith}
 use Rattle.ground.proofs.Cases.{in-range}
-use Rattle.numbers.proofs.Signed.{small, abs-minus}
 use Rattle.numbers.specs.Rounding.{fittedTo}
+use Rattle.numbers.proofs.Signed.{small, abs-minus}
 use Rattle.numerals.specs.Runs.{part, lengthIn}
 use Rattle.numerals.specs.Exponential.{fittedNumeral, weighed}
 use Rattle.numerals.proofs.Powers.{TwoDigits, power-two}
 use Rattle.numerals.proofs.DigitRuns.{part-length}
 use Rattle.numerals.proofs.Composing.{count-runs, composed-taken, composed-left}
-use borrow.Author.Needs.{needs}
-use native.Mathlib.Omega.{arith}
 use Rattle.numerals.proofs.exponential.compose.Statement.{statement}
 use Rattle.numerals.proofs.exponential.compose.Tie as tie
 

@@ -2,10 +2,10 @@
 use Prim.Native.Nat.{_+_}
 use mathlib.Core.Path.{sym, _∙_}
 use Prim.Native.Char.{code}
-use Rattle.numerals.proofs.DigitRuns.{head-in, run-in}
-use Rattle.numerals.proofs.Composing.{fraction-there, fraction-not}
 use borrow.Author.Needs.{needs}
 use native.Mathlib.Omega.{arith}
+use Rattle.numerals.proofs.DigitRuns.{head-in, run-in}
+use Rattle.numerals.proofs.Composing.{fraction-there, fraction-not}
 use Rattle.numerals.proofs.exponential.digits_from.Statement.{statement}
 use Rattle.numerals.proofs.exponential.digits_from.Tie as tie
 

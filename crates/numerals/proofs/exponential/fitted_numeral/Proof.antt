@@ -1,9 +1,9 @@
 -- `exponential::conclude`: what fits is within, what does not is out of range.
 use mathlib.Core.Path.{sym, ap, _∙_}
 use mir.Facts.{toZ-ofZ}
+use borrow.Author.Needs.{needs}
 use Rattle.numbers.specs.Rounding.{fittedTo}
 use Rattle.numerals.specs.Exponential.{fittedNumeral}
-use borrow.Author.Needs.{needs}
 use Rattle.numerals.proofs.exponential.fitted_numeral.Statement.{statement}
 use Rattle.numerals.proofs.exponential.fitted_numeral.Tie as tie
 

@@ -4,10 +4,10 @@ use mathlib.Core.Path.{refl, ap, _∙_}
 use mathlib.Core.List.{List}
 use lib.ListN.{drop, replicate, length-drop}
 use lib.Seq.{paste}
-use Rattle.numerals.specs.Runs.{part, value}
-use Rattle.numerals.proofs.Composing.{two-runs}
 use borrow.Author.Needs.{needs}
 use native.Mathlib.Omega.{arith}
+use Rattle.numerals.specs.Runs.{part, value}
+use Rattle.numerals.proofs.Composing.{two-runs}
 use Rattle.numerals.proofs.exponential.gathered.Statement.{statement}
 use Rattle.numerals.proofs.exponential.gathered.Tie as tie
 

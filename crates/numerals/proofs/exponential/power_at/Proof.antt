@@ -1,8 +1,8 @@
 -- `exponential::power_at`: nothing, or E and a power behind it.
 use mathlib.Core.Path.{sym, _∙_}
-use Rattle.numerals.proofs.Powers.{power-none, power-e, power-other}
 use borrow.Author.Needs.{needs}
 use native.Mathlib.Omega.{arith}
+use Rattle.numerals.proofs.Powers.{power-none, power-e, power-other}
 use Rattle.numerals.proofs.exponential.power_at.Statement.{statement}
 use Rattle.numerals.proofs.exponential.power_at.Tie as tie
 

@@ -6,11 +6,11 @@ use lib.IntN.{pos, negℤ}
 use mir.Syntax.{w32}
 use mir.Val.{SFits}
 use mir.Facts.{toZ-ofZ, toZ-pos}
-use Rattle.numerals.specs.Exponential.{withSign}
-use Rattle.numbers.proofs.Signed.{small, zero-minus, abs-neg}
-use Rattle.numerals.proofs.Wholes.{number-read}
 use borrow.Author.Needs.{needs}
 use native.Mathlib.Omega.{arith}
+use Rattle.numbers.proofs.Signed.{small, zero-minus, abs-neg}
+use Rattle.numerals.specs.Exponential.{withSign}
+use Rattle.numerals.proofs.Wholes.{number-read}
 use Rattle.numerals.proofs.exponential.power_of.Statement.{statement}
 use Rattle.numerals.proofs.exponential.power_of.Tie as tie
 

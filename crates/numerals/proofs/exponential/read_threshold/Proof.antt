@@ -1,11 +1,11 @@
 -- `exponential::read_threshold`: in the part, the plus decides where the digits begin.
 use Prim.Native.Char.{code}
 use mathlib.Core.Path.{sym, ap, _∙_}
+use borrow.Author.Needs.{needs}
+use native.Mathlib.Omega.{arith}
 use Rattle.numerals.specs.Exponential.{thresholdOf}
 use Rattle.numerals.proofs.DigitRuns.{head-in}
 use Rattle.numerals.proofs.Composing.{plus-there, plus-not}
-use borrow.Author.Needs.{needs}
-use native.Mathlib.Omega.{arith}
 use Rattle.numerals.proofs.exponential.read_threshold.Statement.{statement}
 use Rattle.numerals.proofs.exponential.read_threshold.Tie as tie
 

@@ -5,12 +5,12 @@ use mathlib.Core.Bool.{Bool, _||_}
 use mathlib.Core.List.{List}
 use lib.ListN.{drop}
 use Prim.Native.Nat.{ℕ}
+use borrow.Author.Needs.{needs}
+use native.Mathlib.Omega.{arith}
 use Rattle.numerals.specs.Runs.{headIs}
 use Rattle.numerals.specs.Whole.{numberOf}
 use Rattle.numerals.specs.Exponential.{withSign}
 use Rattle.numerals.proofs.Powers.{sign-there, sign-not, sign-in}
-use borrow.Author.Needs.{needs}
-use native.Mathlib.Omega.{arith}
 use Rattle.numerals.proofs.exponential.signed_power.Statement.{statement}
 use Rattle.numerals.proofs.exponential.signed_power.Tie as tie
 

@@ -1,8 +1,8 @@
 -- `runs::is_at`: the byte at the place, or no byte there.
 use mathlib.Core.Path.{sym}
-use Rattle.numerals.proofs.DigitRuns.{head-at, head-out}
 use borrow.Author.Needs.{needs}
 use native.Mathlib.Omega.{arith}
+use Rattle.numerals.proofs.DigitRuns.{head-at, head-out}
 use Rattle.numerals.proofs.runs.is_at.Statement.{statement}
 use Rattle.numerals.proofs.runs.is_at.Tie as tie
 

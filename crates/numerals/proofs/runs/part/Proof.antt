@@ -3,10 +3,10 @@ use mathlib.Core.Path.{_≡_, sym, ap, _∙_}
 use mathlib.Core.Logic.{⊎-elim}
 use Prim.Native.Nat.{ℕ, _≤_}
 use lib.ListN.{length}
-use Rattle.numerals.specs.Runs.{part}
-use Rattle.numerals.proofs.DigitRuns.{part-rest, part-none}
 use borrow.Author.Needs.{needs}
 use native.Mathlib.Omega.{arith}
+use Rattle.numerals.specs.Runs.{part}
+use Rattle.numerals.proofs.DigitRuns.{part-rest, part-none}
 use Rattle.numerals.proofs.runs.part.Statement.{statement}
 use Rattle.numerals.proofs.runs.part.Tie as tie
 

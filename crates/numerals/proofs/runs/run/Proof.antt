@@ -2,10 +2,10 @@
 use Prim.Native.Nat.{_≤_, _+_, _-_}
 use mathlib.Core.Path.{_≡_}
 use lib.ListN.{length, drop}
-use Rattle.numerals.specs.Runs.{lead}
-use Rattle.numerals.proofs.DigitRuns.{lead-more, lead-low, lead-high, lead-end}
 use borrow.Author.Needs.{needs}
 use native.Mathlib.Omega.{arith}
+use Rattle.numerals.specs.Runs.{lead}
+use Rattle.numerals.proofs.DigitRuns.{lead-more, lead-low, lead-high, lead-end}
 use Rattle.numerals.proofs.runs.run.Statement.{statement}
 use Rattle.numerals.proofs.runs.run.Tie as tie
 

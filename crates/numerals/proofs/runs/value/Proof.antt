@@ -3,10 +3,10 @@ use Prim.Native.Nat.{_≤_, _+_, _-_, _*_, _^_}
 use mathlib.Core.Path.{_≡_, refl, sym, ap, _∙_}
 use lib.ListN.{getD}
 use native.Mathlib.Nat.{sub-self}
-use Rattle.numerals.specs.Runs.{part, value}
-use Rattle.numerals.proofs.DigitRuns.{part-cons, part-none, value-more, value-none, bound-more, bound-below}
 use borrow.Author.Needs.{needs}
 use native.Mathlib.Omega.{arith}
+use Rattle.numerals.specs.Runs.{part, value}
+use Rattle.numerals.proofs.DigitRuns.{part-cons, part-none, value-more, value-none, bound-more, bound-below}
 use Rattle.numerals.proofs.runs.value.Statement.{statement}
 use Rattle.numerals.proofs.runs.value.Tie as tie
 

@@ -2,11 +2,11 @@
 use Prim.Native.Nat.{ℕ, _+_, _-_, _*_}
 use mathlib.Core.Path.{sym, ap, _∙_}
 use lib.ListN.{length, drop, length-drop}
+use borrow.Author.Needs.{needs}
+use native.Mathlib.Omega.{arith}
 use Rattle.numerals.specs.Whole.{thousandths}
 use Rattle.numerals.specs.declared.whole.Numeral.the-variants.{Number}
 use Rattle.numerals.proofs.Wholes.{number-read, point-none, point-at, point-not}
-use borrow.Author.Needs.{needs}
-use native.Mathlib.Omega.{arith}
 use Rattle.numerals.proofs.whole.behind.Statement.{statement}
 use Rattle.numerals.proofs.whole.behind.Tie as tie
 

@@ -4,13 +4,13 @@ use mathlib.Core.Path.{_≡_, sym, ap, ap₂, _∙_}
 use mathlib.Core.Bool.{_&&_, and-eq-true-iff}
 use lib.Dec.{leb, eqb}
 use lib.ListN.{length, drop}
+use borrow.Author.Needs.{needs}
+use native.Mathlib.Omega.{arith}
 use Rattle.ground.proofs.Cases.{in-range}
 use Rattle.numerals.specs.Runs.{lead, rest, lengthIn, value}
 use Rattle.numerals.specs.declared.whole.Numeral.the-variants.{Number}
 use Rattle.numerals.proofs.DigitRuns.{run-in, run-lead, run-all, bound-below}
 use Rattle.numerals.proofs.Wholes.{number-taken, number-left}
-use borrow.Author.Needs.{needs}
-use native.Mathlib.Omega.{arith}
 use Rattle.numerals.proofs.whole.number.Statement.{statement}
 use Rattle.numerals.proofs.whole.number.Tie as tie
 

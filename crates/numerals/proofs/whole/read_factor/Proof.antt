@@ -4,13 +4,13 @@ use mathlib.Core.Path.{_≡_, sym, ap, ap₂, _∙_}
 use mathlib.Core.Bool.{_&&_}
 use lib.Dec.{leb}
 use lib.ListN.{length}
+use borrow.Author.Needs.{needs}
+use native.Mathlib.Omega.{arith}
 use Rattle.ground.proofs.Cases.{in-range}
 use Rattle.numerals.specs.Runs.{lead, lengthIn, value}
 use Rattle.numerals.specs.Whole.{behindPoint, factorOf}
 use Rattle.numerals.proofs.DigitRuns.{run-in, run-lead, run-rest, bound-below}
 use Rattle.numerals.proofs.Wholes.{factor-taken, factor-left}
-use borrow.Author.Needs.{needs}
-use native.Mathlib.Omega.{arith}
 use Rattle.numerals.proofs.whole.read_factor.Statement.{statement}
 use Rattle.numerals.proofs.whole.read_factor.Tie as tie
 

@@ -1,7 +1,7 @@
 -- `whole::read_whole`: the number in the part.
 use mathlib.Core.Path.{ap, _∙_}
-use Rattle.numerals.specs.Whole.{wholeOf}
 use borrow.Author.Needs.{needs}
+use Rattle.numerals.specs.Whole.{wholeOf}
 use Rattle.numerals.proofs.whole.read_whole.Statement.{statement}
 use Rattle.numerals.proofs.whole.read_whole.Tie as tie
 

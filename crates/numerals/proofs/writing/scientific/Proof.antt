@@ -4,8 +4,8 @@ use mathlib.Core.Path.{ap, _∙_}
 use native.Mathlib.Nat.{div-one}
 use lib.IntN.{natAbs}
 use mir.Facts.{toZ-ofZ}
-use Rattle.numerals.specs.Writing.{scientific, signByte}
 use borrow.Author.Needs.{needs}
+use Rattle.numerals.specs.Writing.{scientific, signByte}
 use Rattle.numerals.proofs.writing.scientific.Statement.{statement}
 use Rattle.numerals.proofs.writing.scientific.Tie as tie
 

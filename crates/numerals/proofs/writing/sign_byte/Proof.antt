@@ -4,8 +4,8 @@ use mathlib.Core.Bool.{cond}
 use lib.IntN.{ℤ, pos}
 use lib.Signed.{ltZ}
 use mir.Facts.{toZ-ofZ}
-use Rattle.numerals.specs.Writing.{signByte}
 use Rattle.numbers.proofs.Signed.{by-sign}
+use Rattle.numerals.specs.Writing.{signByte}
 use Rattle.numerals.proofs.writing.sign_byte.Statement.{statement}
 use Rattle.numerals.proofs.writing.sign_byte.Tie as tie
 

@@ -3,9 +3,9 @@ use mathlib.Core.Path.{ap, _∙_}
 use mir.Syntax.{w32}
 use mir.Val.{SFits}
 use mir.Facts.{toZ-ofZ}
+use borrow.Author.Needs.{needs}
 use Rattle.text.specs.Page.{page, puts}
 use Rattle.numerals.specs.Writing.{scientific}
-use borrow.Author.Needs.{needs}
 use Rattle.numerals.proofs.writing.write_threshold.Statement.{statement}
 use Rattle.numerals.proofs.writing.write_threshold.Tie as tie
 

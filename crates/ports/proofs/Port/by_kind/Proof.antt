@@ -1,6 +1,6 @@
 -- Each arm is one clause of `byKind`; all but CR and ENQ are quiet.
-use Rattle.ports.specs.Hearing.{byKind}
 use borrow.Author.Needs.{needs}
+use Rattle.ports.specs.Hearing.{byKind}
 use Rattle.ports.proofs.Port.by_kind.Statement.{statement}
 use Rattle.ports.proofs.Port.by_kind.Tie as tie
 

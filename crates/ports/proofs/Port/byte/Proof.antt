@@ -1,6 +1,6 @@
 -- An LF straight after a CR only clears the mark; any other byte settles the port and is taken by its kind (`heard`).
-use Rattle.ports.specs.Hearing.{heard}
 use borrow.Author.Needs.{needs}
+use Rattle.ports.specs.Hearing.{heard}
 use Rattle.ports.proofs.Port.byte.Statement.{statement}
 use Rattle.ports.proofs.Port.byte.Tie as tie
 

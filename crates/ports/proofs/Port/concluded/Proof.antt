@@ -1,6 +1,6 @@
 -- Each arm is one clause of `concluded`; only a line that writes can begin the stream.
-use Rattle.ports.specs.Hearing.{concluded}
 use borrow.Author.Needs.{needs}
+use Rattle.ports.specs.Hearing.{concluded}
 use Rattle.ports.proofs.Port.concluded.Statement.{statement}
 use Rattle.ports.proofs.Port.concluded.Tie as tie
 

@@ -1,6 +1,6 @@
 -- An empty line keeps its selection; without one, and on any other line, line and word are dropped.
-use Rattle.ports.specs.Hearing.{asked}
 use borrow.Author.Needs.{needs}
+use Rattle.ports.specs.Hearing.{asked}
 use Rattle.ports.proofs.Port.enquired.Statement.{statement}
 use Rattle.ports.proofs.Port.enquired.Tie as tie
 

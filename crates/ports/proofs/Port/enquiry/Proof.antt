@@ -1,6 +1,6 @@
 -- An empty line asks for the selection; without one, and on any other line, the error word is asked for.
-use Rattle.ports.specs.Hearing.{asked}
 use borrow.Author.Needs.{needs}
+use Rattle.ports.specs.Hearing.{asked}
 use Rattle.ports.proofs.Port.enquiry.Statement.{statement}
 use Rattle.ports.proofs.Port.enquiry.Tie as tie
 

@@ -1,7 +1,7 @@
 -- The tests are the definition's: bad, room for one more, full.
 use borrow.Author.Tests.{lt-ltb, le-ltb}
-use Rattle.ports.specs.Line.{grown}
 use borrow.Author.Needs.{needs}
+use Rattle.ports.specs.Line.{grown}
 use Rattle.ports.proofs.Port.grown.Statement.{statement}
 use Rattle.ports.proofs.Port.grown.Tie as tie
 

@@ -1,6 +1,6 @@
 -- The three tests are the definition's.
-use Rattle.ports.specs.Limits.{portWithin}
 use borrow.Author.Needs.{needs}
+use Rattle.ports.specs.Limits.{portWithin}
 use Rattle.ports.proofs.Port.is_within.Statement.{statement}
 use Rattle.ports.proofs.Port.is_within.Tie as tie
 

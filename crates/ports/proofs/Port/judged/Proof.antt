@@ -3,10 +3,10 @@ use Prim.Native.Nat.{ℕ}
 use mathlib.Core.Path.{_≡_, sym, ap, _∙_}
 use lib.ListN.{length, take}
 use lib.Seq.{length-take-le}
-use Rattle.lines.specs.Judging.{judged}
-use Rattle.ports.proofs.Gathering.{count-fits, held-part}
 use borrow.Author.Needs.{needs}
 use native.Mathlib.Omega.{arith}
+use Rattle.lines.specs.Judging.{judged}
+use Rattle.ports.proofs.Gathering.{count-fits, held-part}
 use Rattle.ports.proofs.Port.judged.Statement.{statement}
 use Rattle.ports.proofs.Port.judged.Tie as tie
 

@@ -5,9 +5,9 @@ use native.Mathlib.Nat.{sub-zero}
 use borrow.Author.Tests.{le-leb, lt-leb}
 use lib.ListN.{length, drop, length-drop}
 use lib.Seq.{take-all}
-use Rattle.ports.specs.Limits.{lineWithin}
 use borrow.Author.Needs.{needs}
 use native.Mathlib.Omega.{arith}
+use Rattle.ports.specs.Limits.{lineWithin}
 use Rattle.ports.proofs.Port.line_is_within.Statement.{statement}
 use Rattle.ports.proofs.Port.line_is_within.Tie as tie
 

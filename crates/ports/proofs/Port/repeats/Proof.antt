@@ -1,8 +1,8 @@
 -- The selection tells the case; without one nothing answers (`and-false`).
 use mathlib.Core.Path.{sym}
 use mathlib.Core.Bool.{and-false}
-use Rattle.ports.specs.Line.{isEmpty}
 use borrow.Author.Needs.{needs}
+use Rattle.ports.specs.Line.{isEmpty}
 use Rattle.ports.proofs.Port.repeats.Statement.{statement}
 use Rattle.ports.proofs.Port.repeats.Tie as tie
 

@@ -1,9 +1,9 @@
 -- The interval is not 0, so that what is below one less than it is, with one more, below it.
 use Prim.Native.Nat.{_+_}
 use borrow.Author.Tests.{lt-ltb, le-ltb, eq-eqb, ne-eqb}
-use Rattle.ports.specs.Stream.{ticked}
 use borrow.Author.Needs.{needs}
 use native.Mathlib.Omega.{arith}
+use Rattle.ports.specs.Stream.{ticked}
 use Rattle.ports.proofs.Port.tick.Statement.{statement}
 use Rattle.ports.proofs.Port.tick.Tie as tie
 

@@ -1,6 +1,6 @@
 -- The tests are those of `kindOf`, in its order; a byte that none of them takes spoils the line.
-use Rattle.ports.specs.Hearing.{kindOf}
 use borrow.Author.Tests.{eq-eqb, ne-eqb}
+use Rattle.ports.specs.Hearing.{kindOf}
 use Rattle.ports.proofs.hearing.kind_of.Statement.{statement}
 use Rattle.ports.proofs.hearing.kind_of.Tie as tie
 

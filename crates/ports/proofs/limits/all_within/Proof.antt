@@ -3,11 +3,11 @@ use Prim.Native.Nat.{_-_}
 use mathlib.Core.Path.{_≡_, refl, sym, _∙_}
 use mathlib.Core.Bool.{_&&_}
 use lib.ListN.{length, take, drop}
-use Rattle.ground.specs.Members.{every}
-use Rattle.ground.proofs.Ranges.{next, end}
-use Rattle.ground.specs.Ranges.{inRange}
 use borrow.Author.Needs.{needs}
 use native.Mathlib.Omega.{arith}
+use Rattle.ground.specs.Members.{every}
+use Rattle.ground.specs.Ranges.{inRange}
+use Rattle.ground.proofs.Ranges.{next, end}
 use Rattle.ports.proofs.limits.all_within.Statement.{statement}
 use Rattle.ports.proofs.limits.all_within.Tie as tie
 

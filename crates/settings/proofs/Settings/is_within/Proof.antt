@@ -1,6 +1,6 @@
 -- The three tests are those of the sheet's parts (`sheet-parts`).
-use Rattle.settings.proofs.Tabled.{sheet-parts}
 use borrow.Author.Needs.{needs}
+use Rattle.settings.proofs.Tabled.{sheet-parts}
 use Rattle.settings.proofs.Settings.is_within.Statement.{statement}
 use Rattle.settings.proofs.Settings.is_within.Tie as tie
 

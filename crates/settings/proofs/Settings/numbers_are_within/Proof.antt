@@ -1,8 +1,8 @@
 -- The callees tell of each of the four whether it is within.
+use borrow.Author.Needs.{needs}
+use Rattle.ground.proofs.Members.{every-four}
 use Rattle.settings.specs.Limits.{rowWithin}
 use Rattle.settings.specs.declared.mnemonic.Setting.the-variants.{Uni, Fil, Cal, Dcd}
-use Rattle.ground.proofs.Members.{every-four}
-use borrow.Author.Needs.{needs}
 use Rattle.settings.proofs.Settings.numbers_are_within.Statement.{statement}
 use Rattle.settings.proofs.Settings.numbers_are_within.Tie as tie
 

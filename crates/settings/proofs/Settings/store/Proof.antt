@@ -2,9 +2,9 @@
 use mathlib.Core.Path.{_≡_, sym, ap}
 use lib.ListN.{length}
 use lib.Seq.{set-out}
-use Rattle.settings.specs.Rows.{withFactors, firstNumber}
 use borrow.Author.Needs.{needs}
 use native.Mathlib.Omega.{arith}
+use Rattle.settings.specs.Rows.{withFactors, firstNumber}
 use Rattle.settings.proofs.Settings.store.Statement.{statement}
 use Rattle.settings.proofs.Settings.store.Tie as tie
 

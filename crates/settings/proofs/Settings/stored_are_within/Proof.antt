@@ -3,14 +3,14 @@ use Prim.Native.Nat.{_≤_, _-_}
 use mathlib.Core.Path.{_≡_, refl, sym, _∙_}
 use mathlib.Core.Bool.{_&&_}
 use lib.ListN.{getD, take, drop}
+use native.Mathlib.Omega.{arith}
+use borrow.Author.Needs.{needs}
 use Rattle.ground.specs.Members.{every}
+use Rattle.ground.proofs.Ranges.{next, end}
 use Rattle.settings.specs.Mnemonics.{sheet}
 use Rattle.settings.specs.Limits.{rowWithin}
 use Rattle.settings.specs.declared.mnemonic.Setting.the-variants.{Uni}
 use Rattle.settings.proofs.Tabled.{stored-line}
-use Rattle.ground.proofs.Ranges.{next, end}
-use native.Mathlib.Omega.{arith}
-use borrow.Author.Needs.{needs}
 use Rattle.settings.proofs.Settings.stored_are_within.Statement.{statement}
 use Rattle.settings.proofs.Settings.stored_are_within.Tie as tie
 

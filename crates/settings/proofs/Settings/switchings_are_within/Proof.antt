@@ -1,8 +1,8 @@
 -- The callee tells of each of the four; no model lacks a cell of theirs, so no default is asked for.
+use borrow.Author.Needs.{needs}
+use Rattle.ground.proofs.Members.{every-four}
 use Rattle.settings.specs.Limits.{rowWithin}
 use Rattle.settings.specs.declared.mnemonic.Setting.the-variants.{Sp}
-use Rattle.ground.proofs.Members.{every-four}
-use borrow.Author.Needs.{needs}
 use Rattle.settings.proofs.Settings.switchings_are_within.Statement.{statement}
 use Rattle.settings.proofs.Settings.switchings_are_within.Tie as tie
 

@@ -4,9 +4,9 @@ use mathlib.Core.Path.{_≡_, sym, ap, _∙_}
 use mathlib.Core.List.{List, map}
 use lib.ListN.{length, length-map}
 use lib.Seq.{set-out}
-use Rattle.settings.specs.Rows.{withStored, withSwitching, firstNumber, switchingOf}
 use borrow.Author.Needs.{needs}
 use native.Mathlib.Omega.{arith}
+use Rattle.settings.specs.Rows.{withStored, withSwitching, firstNumber, switchingOf}
 use Rattle.settings.proofs.Settings.with_row.Statement.{statement}
 use Rattle.settings.proofs.Settings.with_row.Tie as tie
 

@@ -3,9 +3,9 @@ use Prim.Native.Nat.{ℕ, _<_, _^_}
 use mathlib.Core.Path.{_≡_, refl}
 use native.Mathlib.Nat.{one-le-pow, pow-le-pow-right, div-eq-of-lt}
 use lib.ListN.{getD}
-use Rattle.ground.proofs.Tables.{entries, tabled}
 use borrow.Author.Needs.{needs}
 use native.Mathlib.Omega.{arith}
+use Rattle.ground.proofs.Tables.{entries, tabled}
 use Rattle.text.proofs.digits.digit_at.Statement.{statement}
 use Rattle.text.proofs.digits.digit_at.Tie as tie
 

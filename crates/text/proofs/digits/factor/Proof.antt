@@ -3,10 +3,10 @@ use Prim.Native.Nat.{_/_}
 use Prim.Native.Char.{code}
 use mathlib.Core.Path.{ap, _∙_}
 use mathlib.Core.List.{_∷_}
+use borrow.Author.Needs.{needs}
 use Rattle.text.specs.Digits.{dig, wholeText}
 use Rattle.text.specs.Page.{page, puts}
 use Rattle.text.proofs.Pages.{then}
-use borrow.Author.Needs.{needs}
 use Rattle.text.proofs.digits.factor.Statement.{statement}
 use Rattle.text.proofs.digits.factor.Tie as tie
 

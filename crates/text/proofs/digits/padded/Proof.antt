@@ -3,11 +3,11 @@ use Prim.Native.Nat.{ℕ, _-_, _+_}
 use mathlib.Core.Path.{_≡_, ap, _∙_}
 use native.Mathlib.Nat.{min-eq-left, min-eq-right, le-of-lt}
 use lib.ListN.{drop}
+use borrow.Author.Needs.{needs}
+use native.Mathlib.Omega.{arith}
 use Rattle.text.specs.Digits.{dig}
 use Rattle.text.specs.Page.{page, puts}
 use Rattle.text.proofs.Decimals.{dig-last}
-use borrow.Author.Needs.{needs}
-use native.Mathlib.Omega.{arith}
 use Rattle.text.proofs.digits.padded.Statement.{statement}
 use Rattle.text.proofs.digits.padded.Tie as tie
 

@@ -3,8 +3,8 @@ use Prim.Native.Nat.{_-_}
 use mathlib.Core.Path.{ap, _∙_}
 use lib.ListN.{drop, length-drop}
 use lib.Seq.{take-all}
-use Rattle.text.specs.Page.{page, puts}
 use borrow.Author.Needs.{needs}
+use Rattle.text.specs.Page.{page, puts}
 use Rattle.text.proofs.digits.tail.Statement.{statement}
 use Rattle.text.proofs.digits.tail.Tie as tie
 

@@ -1,9 +1,9 @@
 -- `digits::whole`: one digit is the whole number; of more the digits behind the leading zeros.
 use mathlib.Core.Path.{ap, sym, _∙_}
+use borrow.Author.Needs.{needs}
 use Rattle.text.specs.Digits.{bare}
 use Rattle.text.specs.Page.{page, puts}
 use Rattle.text.proofs.Decimals.{whole-digit}
-use borrow.Author.Needs.{needs}
 use Rattle.text.proofs.digits.whole.Statement.{statement}
 use Rattle.text.proofs.digits.whole.Tie as tie
 

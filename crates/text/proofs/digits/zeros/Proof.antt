@@ -2,10 +2,10 @@
 use Prim.Native.Nat.{_≤_, _-_}
 use mathlib.Core.Path.{_≡_, refl, _∙_}
 use lib.ListN.{length, drop}
-use Rattle.text.specs.Digits.{bare}
-use Rattle.text.proofs.Decimals.{bare-zero, bare-digit, bare-last}
 use borrow.Author.Needs.{needs}
 use native.Mathlib.Omega.{arith}
+use Rattle.text.specs.Digits.{bare}
+use Rattle.text.proofs.Decimals.{bare-zero, bare-digit, bare-last}
 use Rattle.text.proofs.digits.zeros.Statement.{statement}
 use Rattle.text.proofs.digits.zeros.Tie as tie
 

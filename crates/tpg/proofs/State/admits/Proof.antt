@@ -1,6 +1,6 @@
 -- The callee tells whether the state is within; the test of the room is that of `admits`.
-use Rattle.tpg.specs.Calls.{admits}
 use borrow.Author.Needs.{needs}
+use Rattle.tpg.specs.Calls.{admits}
 use Rattle.tpg.proofs.State.admits.Statement.{statement}
 use Rattle.tpg.proofs.State.admits.Tie as tie
 

@@ -1,7 +1,7 @@
 -- The number gives the model or none; the serial number is tested where there is a model.
 use borrow.Author.Tests.{le-leb, lt-leb}
-use Rattle.tpg.specs.Calls.{freshCall}
 use borrow.Author.Needs.{needs}
+use Rattle.tpg.specs.Calls.{freshCall}
 use Rattle.tpg.proofs.State.fresh.Statement.{statement}
 use Rattle.tpg.proofs.State.fresh.Tie as tie
 

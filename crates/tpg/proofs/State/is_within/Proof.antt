@@ -1,6 +1,6 @@
 -- The limits of the instrument and those of the port are together those of the state (`stateWithin`).
-use Rattle.tpg.specs.States.{stateWithin}
 use borrow.Author.Needs.{needs}
+use Rattle.tpg.specs.States.{stateWithin}
 use Rattle.tpg.proofs.State.is_within.Statement.{statement}
 use Rattle.tpg.proofs.State.is_within.Tie as tie
 

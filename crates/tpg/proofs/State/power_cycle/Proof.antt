@@ -1,8 +1,8 @@
 -- The state is tested first; then the box starts again with its saved set.
 use mathlib.Core.Path.{sym, _∙_}
+use borrow.Author.Needs.{needs}
 use Rattle.tpg.specs.Calls.{cycleCall}
 use Rattle.tpg.proofs.Deciding.{without-output}
-use borrow.Author.Needs.{needs}
 use Rattle.tpg.proofs.State.power_cycle.Statement.{statement}
 use Rattle.tpg.proofs.State.power_cycle.Tie as tie
 

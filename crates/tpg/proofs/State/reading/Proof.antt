@@ -3,9 +3,9 @@ use mathlib.Core.Path.{_≡_, sym, _∙_}
 use mathlib.Core.Bool.{true, false, and-eq-true-iff}
 use mir.Facts.{toZ-ofZ}
 use borrow.Author.Tests.{leb-true}
+use borrow.Author.Needs.{needs}
 use Rattle.tpg.specs.Calls.{isChannel}
 use Rattle.tpg.proofs.Deciding.{without-output, unsound, elsewhere, outside, accepted}
-use borrow.Author.Needs.{needs}
 use Rattle.tpg.proofs.State.reading.Statement.{statement}
 use Rattle.tpg.proofs.State.reading.Tie as tie
 

@@ -1,7 +1,7 @@
 -- The state is tested again, and told before the output.
 use mathlib.Core.Path.{sym, _∙_}
-use Rattle.tpg.specs.Calls.{turnedAway}
 use borrow.Author.Needs.{needs}
+use Rattle.tpg.specs.Calls.{turnedAway}
 use Rattle.tpg.proofs.State.turned_away.Statement.{statement}
 use Rattle.tpg.proofs.State.turned_away.Tie as tie
 

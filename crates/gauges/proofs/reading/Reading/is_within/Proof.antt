@@ -2,8 +2,8 @@
 use mir.Syntax.{w32}
 use mir.Val.{SFits}
 use mir.Facts.{toZ-ofZ}
-use Rattle.gauges.specs.Readings.{withinLimits}
 use borrow.Author.Needs.{needs}
+use Rattle.gauges.specs.Readings.{withinLimits}
 use Rattle.gauges.proofs.reading.Reading.is_within.Statement.{statement}
 use Rattle.gauges.proofs.reading.Reading.is_within.Tie as tie
 

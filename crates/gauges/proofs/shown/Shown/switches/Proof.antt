@@ -2,9 +2,9 @@
 use mathlib.Core.Path.{_≡_, refl, sym, _∙_}
 use mathlib.Core.Bool.{Bool, true, false, cond, not, _&&_}
 use borrow.Author.Tests.{eq-eqb, ne-eqb}
+use borrow.Author.Needs.{needs}
 use Rattle.numbers.specs.Numbers.{isAbove}
 use Rattle.gauges.specs.Shown.{switched}
-use borrow.Author.Needs.{needs}
 use Rattle.gauges.proofs.shown.Shown.switches.Statement.{statement}
 use Rattle.gauges.proofs.shown.Shown.switches.Tie as tie
 

@@ -1,13 +1,13 @@
 -- `Threshold::fitted`: zero, a far power, or the rounded number within the stops or not.
 use mathlib.Core.Path.{_≡_, sym, ap, _∙_}
 use mir.Facts.{toZ-ofZ}
+use borrow.Author.Needs.{needs}
+use native.Mathlib.Omega.{arith}
 use Rattle.numbers.specs.Numbers.{withinStops}
 use Rattle.numbers.specs.Rounding.{rounded}
 use Rattle.numbers.specs.declared.threshold.Fitted.the-variants.{Fits}
 use Rattle.numbers.proofs.Signed.{between-near}
 use Rattle.numbers.proofs.Stops.{fitted-zero, fitted-within, fitted-out, fitted-far}
-use borrow.Author.Needs.{needs}
-use native.Mathlib.Omega.{arith}
 use Rattle.numbers.proofs.threshold.Threshold.fitted.Statement.{statement}
 use Rattle.numbers.proofs.threshold.Threshold.fitted.Tie as tie
 

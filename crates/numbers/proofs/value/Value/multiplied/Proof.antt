@@ -4,11 +4,11 @@ use mathlib.Core.Bool.{_&&_}
 use mir.Syntax.{w32}
 use mir.Val.{SFits}
 use mir.Facts.{toZ-ofZ}
+use borrow.Author.Needs.{needs}
+use native.Mathlib.Omega.{arith}
 use Rattle.numbers.specs.Numbers.{isFive}
 use Rattle.numbers.specs.Rounding.{isUsable}
 use Rattle.numbers.proofs.Scaling.{product-five, scaled-is, scaled-not}
-use borrow.Author.Needs.{needs}
-use native.Mathlib.Omega.{arith}
 use Rattle.numbers.proofs.value.Value.multiplied.Statement.{statement}
 use Rattle.numbers.proofs.value.Value.multiplied.Tie as tie
 

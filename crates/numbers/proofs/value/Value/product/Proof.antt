@@ -5,11 +5,11 @@ use lib.IntN.{pos, natAbs, _-ℤ_}
 use mir.Syntax.{w32}
 use mir.Val.{SFits}
 use mir.Facts.{toZ-ofZ}
+use borrow.Author.Needs.{needs}
+use native.Mathlib.Omega.{arith}
 use Rattle.numbers.specs.Rounding.{rounded}
 use Rattle.numbers.proofs.Scaling.{scaled-range, exponent-range}
 use Rattle.numbers.proofs.Signed.{small, abs-minus}
-use borrow.Author.Needs.{needs}
-use native.Mathlib.Omega.{arith}
 use Rattle.numbers.proofs.value.Value.product.Statement.{statement}
 use Rattle.numbers.proofs.value.Value.product.Tie as tie
 

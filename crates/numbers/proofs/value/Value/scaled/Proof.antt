@@ -1,9 +1,9 @@
 -- `Value::scaled`: by one the value stays as it is (`scaled-one`).
 use mathlib.Core.Bool.{and-eq-true-iff}
-use Rattle.numbers.proofs.Scaling.{scaled-one}
 use borrow.Author.Tests.{eqb-true}
 use lib.Dec.{eqb}
 use borrow.Author.Needs.{needs}
+use Rattle.numbers.proofs.Scaling.{scaled-one}
 use Rattle.numbers.proofs.value.Value.scaled.Statement.{statement}
 use Rattle.numbers.proofs.value.Value.scaled.Tie as tie
 

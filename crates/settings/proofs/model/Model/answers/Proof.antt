@@ -1,8 +1,8 @@
 -- What has a reply is answered where its name is known and its channel is there.
 use mathlib.Core.Path.{refl}
+use borrow.Author.Needs.{needs}
 use Rattle.settings.specs.declared.mnemonic.Mnemonic.the-variants.{Com, Sav}
 use Rattle.settings.proofs.Answerable.{setting-answers, factor-answers, query-answers, no-answer}
-use borrow.Author.Needs.{needs}
 use Rattle.settings.proofs.model.Model.answers.Statement.{statement}
 use Rattle.settings.proofs.model.Model.answers.Tie as tie
 

@@ -1,6 +1,6 @@
 -- A setting with a number is known up to the last of its family.
-use Rattle.settings.proofs.Answerable.{sp-known, stored-known, plain-known}
 use borrow.Author.Needs.{needs}
+use Rattle.settings.proofs.Answerable.{sp-known, stored-known, plain-known}
 use Rattle.settings.proofs.model.Model.has.Statement.{statement}
 use Rattle.settings.proofs.model.Model.has.Tie as tie
 

@@ -1,8 +1,8 @@
 -- The first seventeen are those of the sheet (`known-sheet`), and behind them stand the others (`known-others`).
 use mathlib.Core.Path.{ap, _∙_}
+use borrow.Author.Needs.{needs}
 use Rattle.settings.specs.declared.mnemonic.Mnemonic.the-variants.{OfSetting}
 use Rattle.settings.proofs.Names.{known-sheet, known-others}
-use borrow.Author.Needs.{needs}
 use Rattle.settings.proofs.model.Model.known_at.Statement.{statement}
 use Rattle.settings.proofs.model.Model.known_at.Tie as tie
 

@@ -3,13 +3,13 @@ use Prim.Native.Nat.{ℕ, _≤_, _<_, _-_}
 use mathlib.Core.Path.{_≡_, refl, sym, ap, _∙_}
 use mathlib.Core.List.{List, [], _∷_}
 use lib.ListN.{length, drop}
+use borrow.Author.Needs.{needs}
+use native.Mathlib.Omega.{arith}
 use Rattle.settings.specs.Mnemonics.{known, knownAt, name, same, recognised, found}
 use Rattle.settings.specs.declared.mnemonic.Setting.the-variants.{Uni}
 use Rattle.settings.specs.declared.mnemonic.Mnemonic.the-variants.{OfSetting}
 use Rattle.settings.specs.declared.mnemonic.Named.the-variants.{Known}
 use Rattle.settings.proofs.Names.{spelt, found-hit, found-miss, found-end, known-length}
-use borrow.Author.Needs.{needs}
-use native.Mathlib.Omega.{arith}
 use Rattle.settings.proofs.model.Model.named.Statement.{statement}
 use Rattle.settings.proofs.model.Model.named.Tie as tie
 

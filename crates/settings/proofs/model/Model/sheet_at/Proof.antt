@@ -1,9 +1,9 @@
 -- The entry of the table, and past its end the first setting (`List·getD-eq-default`).
 use mathlib.Core.Path.{sym}
 use lib.ListN.{List·getD-eq-default}
+use borrow.Author.Needs.{needs}
 use Rattle.settings.specs.Mnemonics.{sheet}
 use Rattle.settings.specs.declared.mnemonic.Setting.the-variants.{Uni}
-use borrow.Author.Needs.{needs}
 use Rattle.settings.proofs.model.Model.sheet_at.Statement.{statement}
 use Rattle.settings.proofs.model.Model.sheet_at.Tie as tie
 

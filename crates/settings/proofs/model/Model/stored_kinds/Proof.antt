@@ -2,10 +2,10 @@
 use Prim.Native.Nat.{ℕ}
 use mathlib.Core.Path.{sym, ap, _∙_}
 use mathlib.Core.List.{[], _∷_}
+use borrow.Author.Needs.{needs}
 use Rattle.settings.specs.Kinds.{packed, storedKinds}
 use Rattle.settings.specs.declared.kinds.Kind.{Kind}
 use Rattle.settings.proofs.Tabled.{stored-entry, stored-past}
-use borrow.Author.Needs.{needs}
 use Rattle.settings.proofs.model.Model.stored_kinds.Statement.{statement}
 use Rattle.settings.proofs.model.Model.stored_kinds.Tie as tie
 

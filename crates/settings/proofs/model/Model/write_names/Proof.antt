@@ -1,6 +1,5 @@
 -- The names of the model that the match told.
-use mathlib.Core.Path.{ap, sym, _∙_}
-use Rattle.text.specs.Page.{page, puts}
+use mathlib.Core.Path.{_∙_}
 use borrow.Author.Needs.{needs}
 use Rattle.settings.proofs.model.Model.write_names.Statement.{statement}
 use Rattle.settings.proofs.model.Model.write_names.Tie as tie

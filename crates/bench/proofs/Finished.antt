@@ -10,6 +10,7 @@ use lib.Seq.{length-take-le, drop-drop}
 use lib.Dec.{eqb}
 use Rattle.ground.proofs.Cases.{below, never, cond-cases}
 use Rattle.text.specs.Spans.{until}
+use Rattle.text.specs.Control.{lf}
 use Rattle.text.proofs.Marks.{until-few}
 use Rattle.bench.specs.Blocks.{onNext, finished, behindLines}
 
@@ -17,7 +18,7 @@ use Rattle.bench.specs.Blocks.{onNext, finished, behindLines}
 line-more : (s : List ℕ) → length (until 10 s) < length s → finished s ≡ take (length (until 10 s)) s ∷ finished (drop (suc (length (until 10 s))) s)
 unfolding until finished
 line-more [] h = absurd (omega arith)
-line-more (b ∷ s) h = go (eqb b 10) (line-more s) h
+line-more (b ∷ s) h = go (eqb b lf) (line-more s) h
   where
     go : (t : Bool) → (length (until 10 s) < length s → finished s ≡ take (length (until 10 s)) s ∷ finished (drop (suc (length (until 10 s))) s))
         → length (cond t [] (b ∷ until 10 s)) < length (b ∷ s)
@@ -28,7 +29,7 @@ line-more (b ∷ s) h = go (eqb b 10) (line-more s) h
 line-none : (s : List ℕ) → length s ≤ length (until 10 s) → finished s ≡ []
 unfolding until finished
 line-none [] h = refl
-line-none (b ∷ s) h = go (eqb b 10) (line-none s) h
+line-none (b ∷ s) h = go (eqb b lf) (line-none s) h
   where
     go : (t : Bool) → (length s ≤ length (until 10 s) → finished s ≡ []) → length (b ∷ s) ≤ length (cond t [] (b ∷ until 10 s))
         → cond t ([] ∷ finished s) (onNext b (finished s)) ≡ []
@@ -76,5 +77,5 @@ pub behind-inside : (s : List ℕ) → behindLines (finished s) ≤ length s
 unfolding finished behindLines
 behind-inside [] = omega arith
 behind-inside (b ∷ s) =
-    cond-cases (λ (ls : List (List ℕ)). behindLines ls ≤ suc (length s)) (eqb b 10) ([] ∷ finished s) (onNext b (finished s)) (λ _. omega (arith, behind-inside s))
+    cond-cases (λ (ls : List (List ℕ)). behindLines ls ≤ suc (length s)) (eqb b lf) ([] ∷ finished s) (onNext b (finished s)) (λ _. omega (arith, behind-inside s))
     (λ _. omega (arith, next-behind b (finished s), behind-inside s))

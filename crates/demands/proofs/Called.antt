@@ -9,6 +9,7 @@ use lib.Seq.{drop-append-seam}
 use lib.Dec.{eqb, ltb}
 use Rattle.ground.specs.Members.{Each}
 use Rattle.ground.proofs.Cases.{never, cond-cases, at-most}
+use Rattle.text.specs.Control.{cr}
 use Rattle.gauges.specs.Readings.{withinLimits}
 use Rattle.gauges.specs.declared.reading.Reading.{Reading}
 use Rattle.settings.specs.Models.{modelOf}
@@ -155,16 +156,16 @@ nak-keeps s (Writes m r) e = never (cc)
 nak-keeps s (Refused x) e = refl
 
 -- every byte but the CR of an accepted line leaves settings, saved set, readings and switches as they were
-pub byte-keeps : (s : State) (b : ℕ) → (b ≡ 13 → sent s b ≡ nakLine) → next s b .instrument ≡ s .instrument
+pub byte-keeps : (s : State) (b : ℕ) → (b ≡ cr → sent s b ≡ nakLine) → next s b .instrument ≡ s .instrument
 unfolding next sent eventText
 byte-keeps s b =
-    heard-event (λ (e : Event). (b ≡ 13 → eventText (s .instrument) e ≡ nakLine) → acted (s .instrument) e ≡ s .instrument) (s .instrument .model) (s .port) b
+    heard-event (λ (e : Event). (b ≡ cr → eventText (s .instrument) e ≡ nakLine) → acted (s .instrument) e ≡ s .instrument) (s .instrument .model) (s .port) b
     (λ _. refl) (λ byCr refused. nak-keeps (s .instrument) (judged (s .instrument .model) (held (s .port))) (refused byCr)) (λ _. refl) (λ m _ _. refl)
 
 -- "A refused line leaves settings, saved set and readings as they were", over all its bytes
-pub refused-line : (s : State) (l : List ℕ) → Each (λ b. b ≢ 13) l → sent (after s l) 13 ≡ nakLine → after s (ended byCr l) .instrument ≡ s .instrument
+pub refused-line : (s : State) (l : List ℕ) → Each (λ b. b ≢ cr) l → sent (after s l) cr ≡ nakLine → after s (ended byCr l) .instrument ≡ s .instrument
 unfolding after
-refused-line s [] others refused = byte-keeps s 13 (λ _. refused)
+refused-line s [] others refused = byte-keeps s cr (λ _. refused)
 refused-line s (b ∷ bs) others refused = refused-line (next s b) bs (others .1) refused ∙ byte-keeps s b (λ byCr. absurd (others .0 byCr))
 
 -- ---- the limits

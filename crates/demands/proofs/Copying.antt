@@ -14,7 +14,7 @@ use Rattle.ground.proofs.Cases.{in-range}
 use Rattle.ground.proofs.Members.{each-map, each-both, each-take}
 use Rattle.ground.proofs.Sequences.{map-take}
 use Rattle.text.specs.Spans.{until}
-use Rattle.text.specs.Control.{crLf}
+use Rattle.text.specs.Control.{crLf, lf, cr}
 use Rattle.settings.specs.Models.{channels}
 use Rattle.settings.specs.Mnemonics.{sheet, name}
 use Rattle.settings.specs.Rows.{cells}
@@ -87,18 +87,18 @@ module _ (e : End) (instrument : Instrument) where
 -- ---- the lines that are made of the replies
 
 -- a line of what was received ends before its CR, and behind its CR LF the next one begins
-pub first-line : (t rest : List ℕ) → Each (λ (c : ℕ). c ≢ 13) t → firstLine (t ++ (13 ∷ 10 ∷ rest)) ≡ t
+pub first-line : (t rest : List ℕ) → Each (λ (c : ℕ). c ≢ cr) t → firstLine (t ++ (cr ∷ lf ∷ rest)) ≡ t
 unfolding until
 first-line [] rest p = refl
-first-line (c ∷ t) rest p = rw (ne-eqb c 13 (p .0)) (ap (λ (l : List ℕ). c ∷ l) (first-line t rest (p .1)))
+first-line (c ∷ t) rest p = rw (ne-eqb c cr (p .0)) (ap (λ (l : List ℕ). c ∷ l) (first-line t rest (p .1)))
 
-behind-line : (t rest : List ℕ) → Each (λ (c : ℕ). c ≢ 13) t → behindLine (t ++ (13 ∷ 10 ∷ rest)) ≡ rest
+behind-line : (t rest : List ℕ) → Each (λ (c : ℕ). c ≢ cr) t → behindLine (t ++ (cr ∷ lf ∷ rest)) ≡ rest
 behind-line t rest p =
-    let all = t ++ (13 ∷ 10 ∷ rest) in
-    ap (λ (l : List ℕ). drop (length l + 2) all) (first-line t rest p) ∙ sym (drop-drop 2 (length t) all) ∙ ap (drop 2) (drop-append-seam t (13 ∷ 10 ∷ rest))
+    let all = t ++ (cr ∷ lf ∷ rest) in
+    ap (λ (l : List ℕ). drop (length l + 2) all) (first-line t rest p) ∙ sym (drop-drop 2 (length t) all) ∙ ap (drop 2) (drop-append-seam t (cr ∷ lf ∷ rest))
 
-pub no-cr : (l : List ℕ) → Each Character l → Each (λ (c : ℕ). c ≢ 13) l
-no-cr = each-map Character (λ (c : ℕ). c ≢ 13) (λ c h e. omega (arith, in-range 33 126 c h .0))
+pub no-cr : (l : List ℕ) → Each Character l → Each (λ (c : ℕ). c ≢ cr) l
+no-cr = each-map Character (λ (c : ℕ). c ≢ cr) (λ c h e. omega (arith, in-range 33 126 c h .0))
 
 -- from the replies of a box come the lines of its settings
 lines-copied : (model : Model) (a : Settings) (xs : List Setting) → copyLines xs (sheetReplies model a xs) ≡ map (sheetLine model a) xs
@@ -282,7 +282,7 @@ replies-texts model a b [] e = refl
 replies-texts model a b (x ∷ xs) e =
     let t = settingText model a x in
     let u = settingText model b x in
-    let f : t ++ (13 ∷ 10 ∷ sheetReplies model a xs) ≡ u ++ (13 ∷ 10 ∷ sheetReplies model b xs) =
+    let f : t ++ (cr ∷ lf ∷ sheetReplies model a xs) ≡ u ++ (cr ∷ lf ∷ sheetReplies model b xs) =
     sym (append-assoc t crLf (sheetReplies model a xs)) ∙ ap (drop 3) e ∙ append-assoc u crLf (sheetReplies model b xs) in
     let p = no-cr t (setting-characters model a x) in
     let q = no-cr u (setting-characters model b x) in

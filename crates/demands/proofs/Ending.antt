@@ -6,6 +6,7 @@ use mathlib.Core.Bool.{Bool, true, false, cond, not, _&&_, _||_, and-false}
 use lib.ListN.{length, take}
 use lib.Dec.{eqb}
 use Rattle.ground.proofs.Cases.{cond-cases}
+use Rattle.text.specs.Control.{etx, enq, lf, cr}
 use Rattle.settings.specs.Mnemonics.{hasReply, isErr}
 use Rattle.settings.specs.Rows.{firstNumber}
 use Rattle.settings.specs.declared.model.Model.{Model}
@@ -87,11 +88,11 @@ line-concluded {p} {selection} {error} h (Refused x) =
 -- ---- one byte that is no character: CR, ENQ, ETX, LF
 
 -- straight after a CR or not, it is no LF
-no-lf : (model : Model) (p : Port) (b : ℕ) → eqb b 10 ≡ false → heard model p b ≡ byKind model (kindOf b) (settled p) b
+no-lf : (model : Model) (p : Port) (b : ℕ) → eqb b lf ≡ false → heard model p b ≡ byKind model (kindOf b) (settled p) b
 unfolding heard
 no-lf model p b e = rw (e, and-false (p .ended))
 
--- what a line comes to: what is sent, what all share, and the port with an empty line again
+-- what a line comes to: what is sent, the instrument, and the port with an empty line again
 pub record Judged (s : Instrument) (error : Word) (v : Verdict) (bytes : List ℕ) (next : State) : Type 0 where
   pub reply : bytes ≡ lineText v
   pub instrument : next .instrument ≡ applied s v
@@ -171,13 +172,13 @@ answered-line s {selection = Chosen m} h = (ap (λ (w : Word). replyText s w m) 
 
 module _ (s : State) where
   pub cr-judges : {l : List ℕ} {selection : Selection} {error : Word} → Held (s .port) l selection error
-      → Judged (s .instrument) error (judged (s .instrument .model) l) (sent s 13) (next s 13)
+      → Judged (s .instrument) error (judged (s .instrument .model) l) (sent s cr) (next s cr)
   unfolding next sent eventText byKind kindOf
   cr-judges {l} h =
-      rw (no-lf (s .instrument .model) (s .port) 13 refl, h .text)
+      rw (no-lf (s .instrument .model) (s .port) cr refl, h .text)
       (record { reply = refl; instrument = refl; line = line-concluded (marked-line (emptied-line (settled (s .port)) (h .chosen) (h .word)) true) (judged (s .instrument .model) l) })
 
-  pub enq-replies : {selection : Selection} {error : Word} → Line (s .port) [] selection error → Replied (s .instrument) error selection (sent s 5) (next s 5)
+  pub enq-replies : {selection : Selection} {error : Word} → Line (s .port) [] selection error → Replied (s .instrument) error selection (sent s enq) (next s enq)
   unfolding next sent eventText byKind kindOf
   enq-replies {selection} {error} h =
       rw (no-lf (s .instrument .model) (s .port) 5 refl, asked-empty (settled-line h))
@@ -185,13 +186,13 @@ module _ (s : State) where
 
   -- an LF, straight after a CR or not, sends nothing and leaves the line as it is
   pub lf-nothing : {l : List ℕ} {selection : Selection} {error : Word} → Line (s .port) l selection error
-      → (sent s 10 ≡ []) × (next s 10 .instrument ≡ s .instrument) × Line (next s 10 .port) l selection error
+      → (sent s lf ≡ []) × (next s lf .instrument ≡ s .instrument) × Line (next s lf .port) l selection error
   unfolding next sent eventText heard byKind kindOf
   lf-nothing {l} {selection} {error} h =
       cond-cases (λ (x : Heard). (eventText (s .instrument) (x .event) ≡ []) × (acted (s .instrument) (x .event) ≡ s .instrument) × Line (x .port) l selection error) (s .port .ended && eqb 10 10)
       (quiet (withMark (s .port) false)) (quiet (settled (s .port))) (λ _. (refl, refl, marked-line h false)) (λ _. (refl, refl, settled-line h))
 
-  pub etx-empties : (sent s 3 ≡ []) × (next s 3 .instrument ≡ s .instrument) × Line (next s 3 .port) [] Nothing (s .port .error)
+  pub etx-empties : (sent s etx ≡ []) × (next s etx .instrument ≡ s .instrument) × Line (next s etx .port) [] Nothing (s .port .error)
   unfolding next sent eventText byKind kindOf
   etx-empties =
       rw (no-lf (s .instrument .model) (s .port) 3 refl)

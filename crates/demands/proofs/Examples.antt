@@ -9,7 +9,7 @@ use lib.ListN.{replicate}
 use Rattle.ground.specs.Members.{every}
 use Rattle.text.specs.Text.{ascii}
 use Rattle.text.specs.Digits.{bare}
-use Rattle.text.specs.Control.{crLf}
+use Rattle.text.specs.Control.{crLf, enq, lf}
 use Rattle.numbers.specs.Numbers.{less, isBelow, isAbove}
 use Rattle.numbers.specs.Rounding.{climbWithin, five, power, rounded, fittedTo, scaledBy}
 use Rattle.numerals.specs.Runs.{lead, rest, headIs, value}
@@ -69,8 +69,8 @@ abbrev asks : String → Call
 asks s = raw (asking (ascii s))
 
 -- an ENQ alone
-abbrev enq : Call
-enq = raw (enquiries 1)
+abbrev enqCall : Call
+enqCall = raw (enquiries 1)
 
 -- so many ticks
 abbrev waits : ℕ → Call
@@ -157,21 +157,21 @@ examples =
     (reply "5,+2.0000E-02,5,+2.0000E-02" ++ ackLine ++ reply "2,2" ++ refused "0001")
     -- "Letting the LF of CR LF stop the stream its own COM line began."
     ∷ on362 (windows "COM,1" ∷ waits 10 ∷ []) (ackLine ++ reply "5,+2.0000E-02,5,+2.0000E-02")
-    ∷ on362 (windows "COM,1" ∷ raw (10 ∷ []) ∷ waits 10 ∷ []) ackLine
+    ∷ on362 (windows "COM,1" ∷ raw (lf ∷ []) ∷ waits 10 ∷ []) ackLine
     -- a refused COM starts nothing, and the first line comes a whole interval later
-    ∷ on362 (line "COM,3" ∷ waits 10 ∷ enq ∷ []) (refused "0010")
+    ∷ on362 (line "COM,3" ∷ waits 10 ∷ enqCall ∷ []) (refused "0010")
     ∷ on362 (waits 9 ∷ line "COM" ∷ waits 9 ∷ []) ackLine
     -- "Storing fields while checking them: SP1,2,1E-3, then stores an assignment."
     ∷ on362 (line "SP1,2,1E-3," ∷ asks "SP1" ∷ []) (nakLine ++ ackLine ++ reply "0,1.0000E-09,9.0000E-07")
     -- "Sending a CF1 reply back as CF1: two fields on a 362, refused."
     ∷ on362 (asks "CF1" ∷ line "CF1,1.000,1.000" ∷ asks "CF2,2.5" ∷ []) (ackLine ++ reply "1.000,1.000" ++ nakLine ++ ackLine ++ reply "1.000,2.500")
     -- "Keeping the old selection after a NAK, so ENQ answers an earlier question."
-    ∷ on362 (line "UNI" ∷ asks "UNI,9" ∷ enq ∷ []) (ackLine ++ refused "0010" ++ reply "0000")
+    ∷ on362 (line "UNI" ∷ asks "UNI,9" ∷ enqCall ∷ []) (ackLine ++ refused "0010" ++ reply "0000")
     -- "Naming a linear gauge CMR": the list says CMR/APR
     ∷ on362 (linear 2 (pos 10000) (pos 0) ∷ asks "TID" ∷ []) (ackLine ++ reply "noSEn,CMR/APR")
     -- digits gather until the word is sent, here through ERR; ENQ on a bad line sends it too, and not the selection
-    ∷ on362 (line "FOL" ∷ line "UNI,5" ∷ asks "ERR" ∷ enq ∷ []) (nakLine ++ nakLine ++ ackLine ++ reply "0011" ++ reply "0000")
-    ∷ on362 (line "UNI" ∷ raw (1 ∷ 5 ∷ 5 ∷ []) ∷ []) (ackLine ++ reply "0000" ++ reply "0000")
+    ∷ on362 (line "FOL" ∷ line "UNI,5" ∷ asks "ERR" ∷ enqCall ∷ []) (nakLine ++ nakLine ++ ackLine ++ reply "0011" ++ reply "0000")
+    ∷ on362 (line "UNI" ∷ raw (1 ∷ enq ∷ enq ∷ []) ∷ []) (ackLine ++ reply "0000" ++ reply "0000")
     -- "80 / 81 characters": CF2 on a 361 is 0100 before its fields are looked at, and a bad line is 0001
     ∷ on361 (raw (asking (ascii "CF2," ++ replicate 76 48)) ∷ []) (refused "0100")
     ∷ on361 (raw (asking (ascii "CF2," ++ replicate 77 48)) ∷ []) (refused "0001")
@@ -180,8 +180,8 @@ examples =
     ∷ on362 (raw (replicate 81 65 ++ 3 ∷ []) ∷ asks "FIL" ∷ []) (ackLine ++ reply "2,2")
     ∷ on362 (asks "FIL" ∷ raw (replicate 80 48 ++ 5 ∷ []) ∷ []) (ackLine ++ reply "2,2" ++ reply "0000")
     -- switching: below the lower threshold on, between no change, above the upper off; on again, and a status that is not 0 off
-    ∷ on362 (line "SP1,2,1E-3,1E-2" ∷ linear 1 (pos 99999) (negsuc 3) ∷ asks "SPS" ∷ linear 1 (pos 50000) (negsuc 2) ∷ enq
-    ∷ linear 1 (pos 10001) (negsuc 1) ∷ enq ∷ linear 1 (pos 99999) (negsuc 3) ∷ enq ∷ reading 1 noReading ∷ enq ∷ [])
+    ∷ on362 (line "SP1,2,1E-3,1E-2" ∷ linear 1 (pos 99999) (negsuc 3) ∷ asks "SPS" ∷ linear 1 (pos 50000) (negsuc 2) ∷ enqCall
+    ∷ linear 1 (pos 10001) (negsuc 1) ∷ enqCall ∷ linear 1 (pos 99999) (negsuc 3) ∷ enqCall ∷ reading 1 noReading ∷ enqCall ∷ [])
     (ackLine ++ ackLine ++ reply "1,0,0,0" ++ reply "1,0,0,0" ++ reply "0,0,0,0" ++ reply "1,0,0,0" ++ reply "0,0,0,0")
     ∷ on362 (line "SP2,1,1,2" ∷ asks "SPS" ∷ []) (ackLine ++ ackLine ++ reply "0,1,0,0")
     -- SAV keeps what a power cycle takes back; a power cycle forgets readings

@@ -13,7 +13,7 @@ use Rattle.ground.proofs.Cases.{never}
 use Rattle.ground.proofs.Members.{each-map, each-both, every-each}
 use Rattle.text.specs.Text.{ascii}
 use Rattle.text.specs.Digits.{bare}
-use Rattle.text.specs.Control.{crLf}
+use Rattle.text.specs.Control.{crLf, ack}
 use Rattle.numbers.specs.Rounding.{climbWithin, five, power, rounded, fittedTo}
 use Rattle.numerals.specs.Runs.{lead, rest, headIs, value}
 use Rattle.numerals.specs.Whole.{numberOf, behindPoint, factorOf}
@@ -70,7 +70,7 @@ pub naks-all : (says : Says) (becomes : Becomes) → Meets says becomes → Naks
 unfolding flatMap
 naks-all says becomes meets naks =
     let a = fresh Tpg362 in
-    subst (Each (λ (b : ℕ). b ≢ 6)) (meets .copied a a (same-box Tpg362) byCr byCr .0) (naks a (linesSent byCr (copyOf says byCr a))) .0 refl
+    subst (Each (λ (b : ℕ). b ≢ ack)) (meets .copied a a (same-box Tpg362) byCr byCr .0) (naks a (linesSent byCr (copyOf says byCr a))) .0 refl
 
 -- ---- boxes that differ
 

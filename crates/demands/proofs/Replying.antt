@@ -9,6 +9,7 @@ use Rattle.ground.specs.Members.{Each}
 use Rattle.ground.proofs.Cases.{never}
 use Rattle.ground.proofs.Members.{each-map, each-both}
 use Rattle.ground.proofs.Sequences.{take-set}
+use Rattle.text.specs.Control.{etx}
 use Rattle.settings.specs.Models.{channels}
 use Rattle.settings.specs.Mnemonics.{sheet, known, name, channelOf, hasReply}
 use Rattle.settings.specs.Kinds.{factor, kinds}
@@ -77,7 +78,7 @@ line-answered s k w = by (w .start)
         line-enquired s (empty-line s k ready) bytes inner (judged (s .instrument .model) (lineIn bytes)) refl (w .end) (w .enqs)
         ∙ answered-text (w .enqs) (s .instrument) (s .port .error) (judged (s .instrument .model) (lineIn bytes))
     by afterEtx ready bytes inner =
-        let now = next s 3 in
+        let now = next s etx in
         anew-said s (ended (w .end) bytes ++ enquiries (w .enqs)) ∙ line-enquired now (anew-line s) bytes inner (judged (now .instrument .model) (lineIn bytes)) refl (w .end) (w .enqs)
         ∙ answered-text (w .enqs) (now .instrument) (s .port .error) (judged (now .instrument .model) (lineIn bytes))
         ∙ ap (λ (x : Instrument). answered (w .enqs) x (s .port .error) (judged (x .model) (lineIn bytes))) (anew-instrument s)
@@ -94,12 +95,12 @@ line-leaves s k w = by (w .start)
     by onEmpty ready bytes inner = left (line-left s (empty-line s k ready) bytes inner (judged (s .instrument .model) (lineIn bytes)) refl (w .end) (w .enqs))
     by afterEtx ready bytes inner =
         let all = ended (w .end) bytes ++ enquiries (w .enqs) in
-        let t = after (next s 3) all in
+        let t = after (next s etx) all in
         rw (anew-after s all)
         (left
         (subst
         (λ (x : Instrument). let v = judged (x .model) (lineIn bytes) in (t .instrument ≡ applied x v) × Line (t .port) [] (choice v) (errorLeft (w .enqs) (s .port .error) v))
-        (anew-instrument s) (line-left (next s 3) (anew-line s) bytes inner (judged (next s 3 .instrument .model) (lineIn bytes)) refl (w .end) (w .enqs))))
+        (anew-instrument s) (line-left (next s etx) (anew-line s) bytes inner (judged (next s etx .instrument .model) (lineIn bytes)) refl (w .end) (w .enqs))))
 
 -- ---- a mnemonic that is read
 

@@ -11,7 +11,7 @@ use lib.Dec.{leb, ltb}
 use Rattle.ground.specs.Members.{every, Each}
 use Rattle.ground.proofs.Cases.{in-range}
 use Rattle.ground.proofs.Members.{each-map, each-append, every-each}
-use Rattle.text.specs.Control.{isCharacter}
+use Rattle.text.specs.Control.{isCharacter, lf, space}
 use Rattle.numbers.specs.declared.threshold.Threshold.{Threshold}
 use Rattle.settings.specs.Models.{channels}
 use Rattle.settings.specs.Mnemonics.{known, name, channelOf}
@@ -59,7 +59,7 @@ unfolding undropped
 all-kept [] c = refl
 all-kept (b ∷ l) c =
     let r = in-range 33 126 b (c .0) in
-    rw (ne-eqb b 10 (λ e. omega (arith, r .0)), ne-eqb b 32 (λ e. omega (arith, r .0))) (ap (λ (t : List ℕ). b ∷ t) (all-kept l (c .1)))
+    rw (ne-eqb b lf (λ e. omega (arith, r .0)), ne-eqb b space (λ e. omega (arith, r .0))) (ap (λ (t : List ℕ). b ∷ t) (all-kept l (c .1)))
 
 pub typeable-line : (l : List ℕ) → Typeable l → lineIn l ≡ l
 typeable-line l t = rw (all-kept l (t .characters), short-good l (t .characters) (t .few))

@@ -13,7 +13,7 @@ use lib.Dec.{eqb}
 use Rattle.ground.specs.Members.{every, Each}
 use Rattle.ground.proofs.Members.{each-append, each-every}
 use Rattle.ground.proofs.Cases.{below}
-use Rattle.text.specs.Control.{isCharacter}
+use Rattle.text.specs.Control.{isCharacter, etx, enq, lf, cr}
 use Rattle.lines.specs.Words.{noError}
 use Rattle.lines.specs.Judging.{judged}
 use Rattle.lines.specs.declared.word.Word.{Word}
@@ -57,7 +57,7 @@ grown-line {p} {l} h b few =
       word = h .word;
     })
 
--- what bytes leave in a box: nothing is sent, what all share stays, and the port holds a line
+-- what bytes leave in a box: nothing is sent, the instrument stays, and the port holds a line
 record Typed (s : State) (bytes l : List ℕ) (selection : Selection) (error : Word) : Type 0 where
   silent : said s bytes ≡ []
   instrument : after s bytes .instrument ≡ s .instrument
@@ -186,8 +186,8 @@ unfolding after
 enqs-keep zero s h = (refl, h)
 enqs-keep (suc n) s {x} {error} h =
     let r = enq-replies s h in
-    let k = enqs-keep n (next s 5) (r .line) in
-    (k .0 ∙ r .instrument, subst (Line (after (next s 5) (enquiries n) .port) [] x) (word-gone n error x) (k .1))
+    let k = enqs-keep n (next s enq) (r .line) in
+    (k .0 ∙ r .instrument, subst (Line (after (next s enq) (enquiries n) .port) [] x) (word-gone n error x) (k .1))
 
 enqs-replied : (n : ℕ) (s : State) {x : Selection} {error : Word} → Line (s .port) [] x error → said s (enquiries n) ≡ asOften n (λ (w : Word). enqText (s .instrument) w x) error
 unfolding said asOften
@@ -195,7 +195,7 @@ enqs-replied zero s h = refl
 enqs-replied (suc n) s {x} {error} h =
     let r = enq-replies s h in
     ap₂ (λ (t u : List ℕ). t ++ u) (r .reply)
-    (enqs-replied n (next s 5) (r .line) ∙ ap (λ (t : Instrument). asOften n (λ (w : Word). enqText t w x) (wordLeft error x)) (r .instrument) ∙ replies-without-word n (s .instrument) error x)
+    (enqs-replied n (next s enq) (r .line) ∙ ap (λ (t : Instrument). asOften n (λ (w : Word). enqText t w x) (wordLeft error x)) (r .instrument) ∙ replies-without-word n (s .instrument) error x)
 
 -- the word that a line and its ENQs leave
 word-left : (n : ℕ) (error : Word) (v : Verdict) → wordAfter n (gathering error v) (choice v) ≡ errorLeft n error v
@@ -219,7 +219,7 @@ module _ (s : State) {selection : Selection} {error : Word} (empty : Line (s .po
       let now = after s bytes in
       let j = cr-judges now (t .line) in
       let same : judged (now .instrument .model) (lineIn bytes) ≡ v = ap (λ (x : Instrument). judged (x .model) (lineIn bytes)) (t .instrument) ∙ verdict in
-      rw (said-append bytes (13 ∷ []) s, after-append bytes (13 ∷ []) s, t .silent, append-nil (sent now 13))
+      rw (said-append bytes (cr ∷ []) s, after-append bytes (cr ∷ []) s, t .silent, append-nil (sent now cr))
       (rw (same, t .instrument) at j)
 
   -- the LF adds nothing
@@ -228,8 +228,8 @@ module _ (s : State) {selection : Selection} {error : Word} (empty : Line (s .po
   lf-judged =
       let now = after s (ended byCr bytes) in
       let f = lf-nothing now (cr-judged .line) in
-      let parts : ended byCrLf bytes ≡ ended byCr bytes ++ 10 ∷ [] = sym (append-assoc bytes (13 ∷ []) (10 ∷ [])) in
-      rw (parts, said-append (ended byCr bytes) (10 ∷ []) s, after-append (ended byCr bytes) (10 ∷ []) s, f .0, append-nil (said s (ended byCr bytes)))
+      let parts : ended byCrLf bytes ≡ ended byCr bytes ++ lf ∷ [] = sym (append-assoc bytes (cr ∷ []) (lf ∷ [])) in
+      rw (parts, said-append (ended byCr bytes) (lf ∷ []) s, after-append (ended byCr bytes) (lf ∷ []) s, f .0, append-nil (said s (ended byCr bytes)))
       (record { reply = cr-judged .reply; instrument = f .1 ∙ cr-judged .instrument; line = f .2 })
 
   pub line-judged : (e : End) → Ended e
@@ -256,17 +256,17 @@ module _ (s : State) {selection : Selection} {error : Word} (empty : Line (s .po
 
 -- ---- an ETX first
 
-pub anew-line : (s : State) → Line (next s 3 .port) [] Nothing (s .port .error)
+pub anew-line : (s : State) → Line (next s etx .port) [] Nothing (s .port .error)
 anew-line s = etx-empties s .2
 
-pub anew-instrument : (s : State) → next s 3 .instrument ≡ s .instrument
+pub anew-instrument : (s : State) → next s etx .instrument ≡ s .instrument
 anew-instrument s = etx-empties s .1
 
-pub anew-said : (s : State) (bytes : List ℕ) → said s (anew bytes) ≡ said (next s 3) bytes
+pub anew-said : (s : State) (bytes : List ℕ) → said s (anew bytes) ≡ said (next s etx) bytes
 unfolding said
 anew-said s bytes = rw (etx-empties s .0)
 
-pub anew-after : (s : State) (bytes : List ℕ) → after s (anew bytes) ≡ after (next s 3) bytes
+pub anew-after : (s : State) (bytes : List ℕ) → after s (anew bytes) ≡ after (next s etx) bytes
 unfolding after
 anew-after s bytes = refl
 

@@ -5,6 +5,7 @@ use mathlib.Core.List.{List, [], flatMap}
 use mathlib.Core.Logic.{_≢_}
 use lib.ListN.{length, take, drop}
 use Rattle.ground.specs.Members.{Each}
+use Rattle.text.specs.Control.{ack}
 use Rattle.settings.specs.Mnemonics.{name}
 use Rattle.settings.specs.declared.mnemonic.Setting.{Setting}
 use Rattle.settings.specs.declared.mnemonic.Mnemonic.{Mnemonic}
@@ -52,7 +53,7 @@ Rule takes = (s : State) (input : List ℕ) (room : ℕ) → Allowed s input roo
 
 -- "a box that NAKs everything": it never sends an ACK
 abbrev pub NaksAll : Says → Type 0
-NaksAll says = (s : State) (bytes : List ℕ) → Each (λ (b : ℕ). b ≢ 6) (says s bytes)
+NaksAll says = (s : State) (bytes : List ℕ) → Each (λ (b : ℕ). b ≢ ack) (says s bytes)
 
 -- what a program sends behind ACK or NAK for a mnemonic alone and one ENQ
 abbrev pub once : Way

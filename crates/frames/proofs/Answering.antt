@@ -11,6 +11,7 @@ use lib.Seq.{take-append-seam, drop-append-add, drop-drop}
 use lib.Dec.{leb, eqb}
 use Rattle.ground.proofs.Cases.{never, true-or-false}
 use Rattle.text.specs.Hex.{isHexDigit, isHex, unhex, hex}
+use Rattle.text.specs.Control.{lf}
 use Rattle.text.proofs.HexDigits.{hex-length}
 use Rattle.tpg.specs.Steps.{over}
 use Rattle.tpg.specs.declared.State.{State}
@@ -99,14 +100,14 @@ module _ (s : State) (line out : List ℕ) where
     kept = ap length laid ∙ over-length (r .bytes) out (omega (arith, room, framed-few s (bytesOf line) (bytes-small line 1)))
 
     pub answered : (a : FrameOutcome) (w : ℕ) (after : List ℕ) → a ≡ record { number = t .number; state = t .state; written = w } → w ≡ 2 + 2 * t .written + 1
-        → after ≡ over (hex (t .number ∷ take (t .written) sent) ++ 10 ∷ []) sent → (a ≡ answerCall s line (length out)) × (after ≡ over (answerLine s line (length out)) out)
+        → after ≡ over (hex (t .number ∷ take (t .written) sent) ++ lf ∷ []) sent → (a ≡ answerCall s line (length out)) × (after ≡ over (answerLine s line (length out)) out)
     unfolding answerCall answerLine
     answered a w after p q u =
         let count : w ≡ length (outputLine r) = q ∙ ap (λ (x : FrameOutcome). 2 + 2 * x .written + 1) told ∙ sym (output-length r) in
         rw (le-leb longestLine (length out) room) (
           p ∙ (λ i. record { number = told i .number; state = told i .state; written = count i }),
-          u ∙ ap (λ (x : FrameOutcome). over (hex (x .number ∷ take (x .written) sent) ++ 10 ∷ []) sent) told
-              ∙ ap (λ (l : List ℕ). over (hex (r .number ∷ take (length (r .bytes)) l) ++ 10 ∷ []) l) laid
-              ∙ ap (λ (l : List ℕ). over (hex (r .number ∷ l) ++ 10 ∷ []) (over (r .bytes) out)) (over-front (r .bytes) out)
+          u ∙ ap (λ (x : FrameOutcome). over (hex (x .number ∷ take (x .written) sent) ++ lf ∷ []) sent) told
+              ∙ ap (λ (l : List ℕ). over (hex (r .number ∷ take (length (r .bytes)) l) ++ lf ∷ []) l) laid
+              ∙ ap (λ (l : List ℕ). over (hex (r .number ∷ l) ++ lf ∷ []) (over (r .bytes) out)) (over-front (r .bytes) out)
               ∙ over-over (r .bytes) (outputLine r) out (omega (arith, output-length r)),
         )

@@ -7,6 +7,7 @@ use lib.ListN.{length, getD, set, take, drop, length-set, length-append, drop-of
 use lib.Seq.{length-take-le, take-take, take-set-le, getD-take, drop-cons, set-at, append-snoc}
 use Rattle.ground.proofs.Sequences.{set-two}
 use Rattle.text.specs.Hex.{digitOf, hexPair, hex}
+use Rattle.text.specs.Control.{lf}
 use Rattle.text.proofs.HexDigits.{hex-length}
 use Rattle.tpg.specs.Steps.{over}
 
@@ -66,14 +67,14 @@ module _ (out₀ out : List ℕ) (count : ℕ) where
             ∙ sym (ap (λ (l : List ℕ). hex l ++ rest) (drop-cons bytes k 0 held));
       }
 
-  pub ended : (number : ℕ) → Spread out₀ out count 0 → set (put out 0 number) (2 + 2 * count) 10 ≡ over (hex (number ∷ bytes) ++ 10 ∷ []) out₀
+  pub ended : (number : ℕ) → Spread out₀ out count 0 → set (put out 0 number) (2 + 2 * count) 10 ≡ over (hex (number ∷ bytes) ++ lf ∷ []) out₀
   unfolding hex over
   ended number s =
       let line : List ℕ = hex (number ∷ bytes) in
       let many : length line ≡ 2 + 2 * count = hex-length (number ∷ bytes) ∙ omega (arith, length-take-le count out₀ (omega (arith, s .room))) in
       let turned : put out 0 number ≡ line ++ rest = pair-back out 0 number (omega (arith, s .same, s .room)) ∙ ap (λ (l : List ℕ). hexPair number ++ l) (s .back) in
       let last : rest ≡ getD out₀ (2 + 2 * count) 0 ∷ drop (suc (2 + 2 * count)) out₀ = drop-cons out₀ (2 + 2 * count) 0 (omega (arith, s .room)) in
-      let long : suc (2 + 2 * count) ≡ length (line ++ 10 ∷ []) = sym (length-append line (10 ∷ []) ∙ omega (arith, many)) in
+      let long : suc (2 + 2 * count) ≡ length (line ++ lf ∷ []) = sym (length-append line (lf ∷ []) ∙ omega (arith, many)) in
       ap (λ (l : List ℕ). set l (2 + 2 * count) 10) (turned ∙ ap (λ (l : List ℕ). line ++ l) last)
       ∙ set-at line (getD out₀ (2 + 2 * count) 0) (drop (suc (2 + 2 * count)) out₀) 10 (2 + 2 * count) many
-      ∙ sym (append-snoc line 10 (drop (suc (2 + 2 * count)) out₀)) ∙ ap (λ (n : ℕ). line ++ (10 ∷ []) ++ drop n out₀) long
+      ∙ sym (append-snoc line 10 (drop (suc (2 + 2 * count)) out₀)) ∙ ap (λ (n : ℕ). line ++ (lf ∷ []) ++ drop n out₀) long

@@ -1,8 +1,8 @@
 -- One field: what each kind reads, and what it writes (01, "Settings" and "Bytes from the host").
 use Prim.Native.Nat.{ℕ}
 use mathlib.Core.List.{List}
-use mathlib.Core.Bool.{cond, _&&_}
-use lib.Dec.{leb}
+use mathlib.Core.Bool.{cond}
+use Rattle.ground.specs.Ranges.{inRange}
 use Rattle.text.specs.Digits.{wholeText, factorText}
 use Rattle.numbers.specs.declared.threshold.Threshold.{Threshold}
 use Rattle.numerals.specs.Whole.{wholeOf, factorOf}
@@ -30,8 +30,8 @@ errorWord Hardware = 100
 -- "value of every field .., 0010, or 0100 where it needs channel 2 on a 361"
 unfoldable pub limited : Limits → ℕ → Field
 limited l n =
-    cond (leb (l .least) n && leb n (l .most)) (Held (plain n))
-    (cond (leb (l .least) n && leb n (l .reach)) (Faulty Hardware) (Faulty Parameter))
+    cond (inRange (l .least) (l .most) n) (Held (plain n))
+    (cond (inRange (l .least) (l .reach) n) (Faulty Hardware) (Faulty Parameter))
 
 -- a number that is malformed is a fault of form
 abbrev pub ranged : Limits → Numeral → Field

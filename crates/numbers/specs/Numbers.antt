@@ -1,15 +1,16 @@
 -- Thresholds and signed values as numbers: d.dddd times a power of ten (01, "Settings"; "Readings, switching, streaming").
 use Prim.Native.Nat.{ℕ, suc, _*_, _^_}
 use mathlib.Core.Bool.{Bool, _&&_, _||_}
-use lib.Dec.{leb, eqb}
+use lib.Dec.{eqb}
 use lib.IntN.{ℤ, pos, negsuc, negℤ, natAbs, _*ℤ_}
 use lib.Signed.{ltZ, leZ}
+use Rattle.ground.specs.Ranges.{inRange}
 use Rattle.numbers.specs.declared.threshold.Threshold.{Threshold}
 use Rattle.numbers.specs.declared.value.Value.{Value}
 
 -- "magnitude 10000 to 99999"
 abbrev pub fiveDigits : ℕ → Bool
-fiveDigits m = leb 10000 m && leb m 99999
+fiveDigits m = inRange 10000 99999 m
 
 -- e is from low to high
 abbrev pub between : ℤ → ℤ → ℤ → Bool

@@ -1,8 +1,9 @@
 -- "rounded to five significant digits, half upwards" (01, "Settings"; "Readings, switching, streaming").
 use Prim.Native.Nat.{ℕ, zero, suc, _+_, _*_, _/_, _^_, _≤_, _<_}
 use mathlib.Core.Bool.{Bool, cond, _&&_}
-use lib.Dec.{leb, ltb, eqb}
+use lib.Dec.{ltb, eqb}
 use lib.IntN.{ℤ, pos, natAbs, _+ℤ_, _-ℤ_}
+use Rattle.ground.specs.Ranges.{inRange}
 use Rattle.numbers.specs.Numbers.{isFive, withinStops, signed, tens, tenths}
 use Rattle.numbers.specs.declared.threshold.Threshold.{Threshold}
 use Rattle.numbers.specs.declared.threshold.Fitted.{Fitted}
@@ -53,7 +54,7 @@ fittedTo n x = cond (eqb n 0) Outside (heldToStops (rounded n 1 x))
 
 -- a ratio that is carried exactly: both parts from 1 to 10^12
 abbrev pub isUsable : Ratio → Bool
-isUsable r = (leb 1 (r .over) && leb (r .over) 1000000000000) && (leb 1 (r .under) && leb (r .under) 1000000000000)
+isUsable r = inRange 1 1000000000000 (r .over) && inRange 1 1000000000000 (r .under)
 
 -- the magnitude of v times r, rounded once; v.mantissa stands for d.dddd, so its power is four lower
 abbrev pub product : Value → Ratio → Threshold

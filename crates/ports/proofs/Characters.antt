@@ -13,7 +13,7 @@ use lib.Seq.{drop-cons}
 use lib.Dec.{eqb, leb, ltb}
 use Rattle.ground.specs.Ranges.{inRange}
 use Rattle.ground.proofs.Cases.{never, below, in-range, either, neither}
-use Rattle.text.specs.Control.{isCharacter}
+use Rattle.text.specs.Control.{isCharacter, etx, enq, lf, cr, space}
 use Rattle.settings.specs.Mnemonics.{isErr}
 use Rattle.settings.specs.declared.model.Model.{Model}
 use Rattle.settings.specs.declared.mnemonic.Mnemonic.{Mnemonic}
@@ -46,15 +46,15 @@ module _ (input : List ℕ) (i : ℕ) where
 
 -- the characters begin behind the space, so that one range has both
 pub typed-range : (b : ℕ) → inRange 32 126 b ≡ isTyped b
-typed-range b = by (eqb b 32) refl
+typed-range b = by (eqb b space) refl
   where
-    by : (t : Bool) → eqb b 32 ≡ t → inRange 32 126 b ≡ (t || inRange 33 126 b)
-    by true e = rw (eqb-true b 32 e)
+    by : (t : Bool) → eqb b space ≡ t → inRange 32 126 b ≡ (t || inRange 33 126 b)
+    by true e = rw (eqb-true b space e)
     by false e = ap (λ (t : Bool). t && leb b 126) (above (below 32 b))
       where
         above : (32 < b) ⊎ (b ≤ 32) → leb 32 b ≡ leb 33 b
         above (inl l) = rw (le-leb 32 b (omega arith), le-leb 33 b l)
-        above (inr g) = rw (lt-leb 32 b (omega (arith, eqb-false b 32 e)), lt-leb 33 b (omega arith))
+        above (inr g) = rw (lt-leb 32 b (omega (arith, eqb-false b space e)), lt-leb 33 b (omega arith))
 
 -- a typed byte is none of those below the space
 module _ (b : ℕ) (e : isTyped b ≡ true) where
@@ -64,25 +64,25 @@ module _ (b : ℕ) (e : isTyped b ≡ true) where
   other : (n : ℕ) → n < 32 → eqb b n ≡ false
   other n h = ne-eqb b n (λ q. omega (arith, range .0))
 
-  kind-typed : kindOf b ≡ cond (eqb b 32) Dropped Character
+  kind-typed : kindOf b ≡ cond (eqb b space) Dropped Character
   unfolding kindOf
-  kind-typed = rw (other 13 (omega arith), other 10 (omega arith), other 3 (omega arith), other 5 (omega arith)) (by (eqb b 32) refl)
+  kind-typed = rw (other cr (omega arith), other lf (omega arith), other etx (omega arith), other enq (omega arith)) (by (eqb b space) refl)
     where
-      by : (t : Bool) → eqb b 32 ≡ t → cond t Dropped (cond (isCharacter b) Character Spoiling) ≡ cond t Dropped Character
+      by : (t : Bool) → eqb b space ≡ t → cond t Dropped (cond (isCharacter b) Character Spoiling) ≡ cond t Dropped Character
       by true q = refl
       by false q = rw (rw q at e)
 
 -- whatever the model, and straight after a CR too
 pub typed-heard : (model : Model) (p : Port) (b : ℕ) → isTyped b ≡ true → heard model p b ≡ quiet (typedOne p b)
 unfolding heard typedOne byKind
-typed-heard model p b e = rw (other b e 10 (omega arith), and-false (p .ended), kind-typed b e) (by (eqb b 32))
+typed-heard model p b e = rw (other b e lf (omega arith), and-false (p .ended), kind-typed b e) (by (eqb b space))
   where
     by : (t : Bool) → byKind model (cond t Dropped Character) (settled p) b ≡ quiet (cond t (settled p) (grown (settled p) b))
     by true = refl
     by false = refl
 
 -- an ENQ asked of the settled port, its reply and its port apart, is heard so, straight after a CR too
-pub enq-heard : (model : Model) (p q next : Port) (m : Mnemonic) (b : ℕ) → b ≡ 5 → q ≡ settled p → Reply m (q .error) ≡ asked q .event → next ≡ asked q .port
+pub enq-heard : (model : Model) (p q next : Port) (m : Mnemonic) (b : ℕ) → b ≡ enq → q ≡ settled p → Reply m (q .error) ≡ asked q .event → next ≡ asked q .port
     → record { port = next; event = Reply m (q .error) } ≡ heard model p b
 unfolding heard kindOf byKind
 enq-heard model p q next m b enq settles event port = rw (enq, and-false (p .ended), ← settles) (λ i. record { port = port i; event = event i })
@@ -137,13 +137,13 @@ module _ {p : Port} {input : List ℕ} {from : ℕ} {port : Port} {len : ℕ} {b
           count = g .count ∙ rw m (omega arith);
         }
 
-    pub kept : not (eqb byte 32) && not bad ≡ false → Gathering p input from port len bad (i + 1)
+    pub kept : not (eqb byte space) && not bad ≡ false → Gathering p input from port len bad (i + 1)
     unfolding typedOne grown
-    kept h = step (port .line) len bad (either (eqb byte 32) bad now _ h)
+    kept h = step (port .line) len bad (either (eqb byte space) bad now _ h)
 
-    module _ (h : not (eqb byte 32) && not bad ≡ true) where
-      tests : (eqb byte 32 ≡ false) × (bad ≡ false)
-      tests = neither (eqb byte 32) bad h
+    module _ (h : not (eqb byte space) && not bad ≡ true) where
+      tests : (eqb byte space ≡ false) × (bad ≡ false)
+      tests = neither (eqb byte space) bad h
 
       pub longer : len < 80 → Gathering p input from (lined port (set (port .line) len byte)) (len + 1) bad (i + 1)
       unfolding typedOne grown

@@ -10,6 +10,7 @@ use lib.Dec.{eqb, leb, ltb}
 use Rattle.ground.specs.Members.{every}
 use Rattle.ground.specs.Ranges.{inRange}
 use Rattle.ground.proofs.Cases.{cond-cases}
+use Rattle.text.specs.Control.{cr, space}
 use Rattle.settings.specs.declared.model.Model.{Model}
 use Rattle.settings.specs.declared.mnemonic.Query.the-variants.{Sps, Err}
 use Rattle.settings.specs.declared.mnemonic.Mnemonic.{Mnemonic}
@@ -44,7 +45,7 @@ pub del-spoils : (model : Model) (p : Port) → heard model p 127 ≡ quiet (spo
 unfolding heard kindOf byKind
 del-spoils model p = rw (and-false (p .ended))
 
-pub com-unselected : (model : Model) (p : Port) (r : Row) → judged model (held p) ≡ Writes Com r → heard model p 13 .port .selection ≡ Nothing
+pub com-unselected : (model : Model) (p : Port) (r : Row) → judged model (held p) ≡ Writes Com r → heard model p cr .port .selection ≡ Nothing
 unfolding heard kindOf byKind concluded
 com-unselected model p r e = rw (and-false (p .ended), e)
 
@@ -77,7 +78,7 @@ unfolding typedOne
 space-dropped p = refl
 
 -- an 81st character makes the line bad
-pub full-spoils : (p : Port) (b : ℕ) → eqb b 32 ≡ false → p .bad ≡ false → 80 ≤ p .len → typedOne p b ≡ spoilt (settled p)
+pub full-spoils : (p : Port) (b : ℕ) → eqb b space ≡ false → p .bad ≡ false → 80 ≤ p .len → typedOne p b ≡ spoilt (settled p)
 unfolding typedOne grown
 full-spoils p b c e h = rw (c, e, le-ltb (p .len) 80 h)
 
@@ -89,7 +90,7 @@ one-settles : (p : Port) (b : ℕ) → Still (typedOne p b)
 unfolding typedOne grown
 one-settles p b =
     let q = settled p in
-    cond-cases Still (eqb b 32) q _ (λ _. (refl, refl))
+    cond-cases Still (eqb b space) q _ (λ _. (refl, refl))
     (λ _. cond-cases Still (q .bad) q _ (λ _. (refl, refl)) (λ _. cond-cases Still (ltb (q .len) 80) _ (spoilt q) (λ _. (refl, refl)) (λ _. (refl, refl))))
 
 all-settle : (bs : List ℕ) (p : Port) → Still p → Still (typedAll p bs)

@@ -15,7 +15,7 @@ use Rattle.ground.specs.Members.{every}
 use Rattle.ground.specs.Ranges.{inRange}
 use Rattle.ground.proofs.Members.{every-snoc}
 use Rattle.ground.proofs.Cases.{never, cond-cases, in-range}
-use Rattle.text.specs.Control.{isCharacter}
+use Rattle.text.specs.Control.{isCharacter, etx, enq, lf, cr}
 use Rattle.numbers.specs.Numbers.{between}
 use Rattle.settings.specs.Mnemonics.{isErr, hasReply, answers}
 use Rattle.settings.specs.Kinds.{whole, kinds}
@@ -59,16 +59,16 @@ heard-by : (P : Heard → Type 0) (model : Model) (p : Port) (b : ℕ) → P (qu
     → ((k : ByteKind) → kindOf b ≡ k → P (byKind model k (stopped (withMark p false)) b)) → P (heard model p b)
 unfolding heard
 heard-by P model p b q f =
-    cond-cases P (p .ended && eqb b 10) (quiet (withMark p false)) (byKind model (kindOf b) (stopped (withMark p false)) b) (λ _. q) (λ _. f (kindOf b) refl)
+    cond-cases P (p .ended && eqb b lf) (quiet (withMark p false)) (byKind model (kindOf b) (stopped (withMark p false)) b) (λ _. q) (λ _. f (kindOf b) refl)
 
 -- a byte that is no CR, ETX or ENQ: it is dropped, a character or a byte that spoils the line, and nothing is sent
-module _ (P : Heard → Type 0) (model : Model) (p : Port) (b : ℕ) (cr : b ≢ 13) (etx : b ≢ 3) (enq : b ≢ 5)
+module _ (P : Heard → Type 0) (model : Model) (p : Port) (b : ℕ) (not-cr : b ≢ cr) (not-etx : b ≢ etx) (not-enq : b ≢ enq)
     (kept : isDropped b ≡ true → P (quiet (withMark p false))) (settles : isDropped b ≡ true → P (quiet (settled p)))
     (grows : isDropped b ≡ false → isCharacter b ≡ true → P (quiet (grown (settled p) b)))
     (spoils : isDropped b ≡ false → isCharacter b ≡ false → P (quiet (spoilt (settled p)))) where
   inner-kind : P (byKind model (kindOf b) (settled p) b)
   unfolding byKind kindOf
-  inner-kind = rw (ne-eqb b 13 cr, ne-eqb b 3 etx, ne-eqb b 5 enq) (by (isDropped b) refl (isCharacter b) refl)
+  inner-kind = rw (ne-eqb b cr not-cr, ne-eqb b etx not-etx, ne-eqb b enq not-enq) (by (isDropped b) refl (isCharacter b) refl)
     where
       by : (d : Bool) → isDropped b ≡ d → (c : Bool) → isCharacter b ≡ c → P (byKind model (cond d Dropped (cond c Character Spoiling)) (settled p) b)
       by true e c f = settles e
@@ -78,8 +78,8 @@ module _ (P : Heard → Type 0) (model : Model) (p : Port) (b : ℕ) (cr : b ≢
   pub inner-by : P (heard model p b)
   unfolding heard
   inner-by =
-      cond-cases P (p .ended && eqb b 10) (quiet (withMark p false)) (byKind model (kindOf b) (settled p) b)
-      (λ e. kept (rw (and-eq-true-iff (p .ended) (eqb b 10) .0 e .1))) (λ _. inner-kind)
+      cond-cases P (p .ended && eqb b lf) (quiet (withMark p false)) (byKind model (kindOf b) (settled p) b)
+      (λ e. kept (rw (and-eq-true-iff (p .ended) (eqb b lf) .0 e .1))) (λ _. inner-kind)
 
 asked-by : (P : Heard → Type 0) (p : Port) → P (worded p) → ((m : Mnemonic) → p .selection ≡ Chosen m → P (replied p m)) → P (asked p)
 unfolding asked
@@ -207,10 +207,10 @@ character-test false e = never (cc)
 is-character : (b : ℕ) → kindOf b ≡ Character → isCharacter b ≡ true
 unfolding kindOf
 is-character b e =
-    let e1 = other-kind (eqb b 13) Cr _ (λ z. never (cc)) e in
+    let e1 = other-kind (eqb b cr) Cr _ (λ z. never (cc)) e in
     let e2 = other-kind (isDropped b) Dropped _ (λ z. never (cc)) e1 in
-    let e3 = other-kind (eqb b 3) Etx _ (λ z. never (cc)) e2 in
-    let e4 = other-kind (eqb b 5) Enq _ (λ z. never (cc)) e3 in
+    let e3 = other-kind (eqb b etx) Etx _ (λ z. never (cc)) e2 in
+    let e4 = other-kind (eqb b enq) Enq _ (λ z. never (cc)) e3 in
     character-test (isCharacter b) e4
 
 longer-within : (p : Port) (b : ℕ) → Long p → lineWithin p ≡ true → isCharacter b ≡ true → p .bad ≡ false → p .len < 80 → lineWithin (longer p b) ≡ true
@@ -303,21 +303,21 @@ ticked-within model p h =
 
 -- ---- what a byte makes the box do
 
-cr-byte : (b : ℕ) → kindOf b ≡ Cr → b ≡ 13
+cr-byte : (b : ℕ) → kindOf b ≡ Cr → b ≡ cr
 unfolding kindOf
-cr-byte b = by (eqb b 13) (isDropped b) (eqb b 3) (eqb b 5) (isCharacter b) refl
+cr-byte b = by (eqb b cr) (isDropped b) (eqb b etx) (eqb b enq) (isCharacter b) refl
   where
-    by : (cr dropped etx enq character : Bool) → eqb b 13 ≡ cr
-        → cond cr Cr (cond dropped Dropped (cond etx Etx (cond enq Enq (cond character Character Spoiling)))) ≡ Cr → b ≡ 13
-    by true dropped etx enq character e q = eqb-true b 13 e
-    by false true etx enq character e q = never (cc)
-    by false false true enq character e q = never (cc)
+    by : (isCr dropped isEtx isEnq character : Bool) → eqb b cr ≡ isCr
+        → cond isCr Cr (cond dropped Dropped (cond isEtx Etx (cond isEnq Enq (cond character Character Spoiling)))) ≡ Cr → b ≡ cr
+    by true dropped isEtx isEnq character e q = eqb-true b cr e
+    by false true isEtx isEnq character e q = never (cc)
+    by false false true isEnq character e q = never (cc)
     by false false false true character e q = never (cc)
     by false false false false true e q = never (cc)
     by false false false false false e q = never (cc)
 
 -- only a CR ends a line
-module _ (Q : Event → Type 0) (model : Model) (p : Port) (b : ℕ) (silent : Q Silent) (line : b ≡ 13 → Q (Line (judged model (held p))))
+module _ (Q : Event → Type 0) (model : Model) (p : Port) (b : ℕ) (silent : Q Silent) (line : b ≡ cr → Q (Line (judged model (held p))))
     (word : Q (Reply (OfQuery Err) (p .error))) (reply : (m : Mnemonic) → p .selection ≡ Chosen m → Q (Reply m (p .error))) where
   kind-event : (k : ByteKind) → kindOf b ≡ k → Q (byKind model k (stopped (withMark p false)) b .event)
   unfolding byKind

@@ -4,9 +4,10 @@ use mathlib.Core.Path.{_≡_}
 use mathlib.Core.List.{List}
 use mathlib.Core.Bool.{Bool, cond, _&&_}
 use lib.ListN.{length}
-use lib.Dec.{leb, ltb, eqb}
+use lib.Dec.{ltb, eqb}
 use lib.IntN.{pos}
 use Rattle.ground.specs.Members.{every}
+use Rattle.ground.specs.Ranges.{inRange}
 use Rattle.numbers.specs.Numbers.{between, withinStops}
 use Rattle.numbers.specs.declared.threshold.Threshold.{Threshold}
 use Rattle.settings.specs.Models.{defaults}
@@ -25,7 +26,7 @@ use Rattle.settings.specs.declared.Settings.{Settings}
 
 -- a plain number from the least to the most
 abbrev pub inside : Limits → Threshold → Bool
-inside l c = between (pos 0) (pos 0) (c .exponent) && (leb (l .least) (c .mantissa) && leb (c .mantissa) (l .most))
+inside l c = between (pos 0) (pos 0) (c .exponent) && inRange (l .least) (l .most) (c .mantissa)
 
 -- a field of the kind may hold the cell
 abbrev pub fits : Kind → Threshold → Bool

@@ -3,7 +3,8 @@ use Prim.Native.Nat.{ℕ, _+_, _*_, _-_, _/_, _%_}
 use mathlib.Core.List.{List, [], _∷_, _++_}
 use mathlib.Core.Bool.{Bool, true, false, cond, _&&_}
 use lib.ListN.{getD}
-use lib.Dec.{leb, ltb}
+use lib.Dec.{ltb}
+use Rattle.ground.specs.Ranges.{inRange}
 use Rattle.text.specs.Text.{ascii}
 
 -- the sixteen digits
@@ -25,7 +26,7 @@ hex (b ∷ bs) = hexPair b ++ hex bs
 
 -- the value of a digit, its place among the sixteen; 16 for any other character
 unfoldable pub valueOf : ℕ → ℕ
-valueOf c = cond (leb 48 c && leb c 57) (c - 48) (cond (leb 65 c && leb c 70) (c - 55) 16)
+valueOf c = cond (inRange 48 57 c) (c - 48) (cond (inRange 65 70 c) (c - 55) 16)
 
 -- the character is a digit
 abbrev pub isHexDigit : ℕ → Bool

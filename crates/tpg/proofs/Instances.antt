@@ -6,6 +6,7 @@ use mathlib.Core.Bool.{true, false, and-false}
 use native.Mathlib.Omega.{arith}
 use borrow.Author.Tests.{le-leb, lt-leb, lt-ltb, ne-eqb}
 use lib.ListN.{length}
+use Rattle.text.specs.Control.{ack, cr, crLf}
 use Rattle.gauges.specs.declared.reading.Reading.{Reading}
 use Rattle.settings.specs.Models.{modelOf}
 use Rattle.settings.specs.declared.model.Model.{Model}
@@ -74,12 +75,12 @@ module _ (s : State) where
 
   -- ---- bytes of the host
 
-  pub accepted-ack : (b : ℕ) (m : Mnemonic) (r : Row) → hearing s b .event ≡ Line (Writes m r) → sent s b ≡ 6 ∷ 13 ∷ 10 ∷ []
+  pub accepted-ack : (b : ℕ) (m : Mnemonic) (r : Row) → hearing s b .event ≡ Line (Writes m r) → sent s b ≡ ack ∷ crLf
   unfolding sent eventText
   accepted-ack b m r e = rw e
 
   -- ACK or NAK, and the end of the line
-  cr-sends : length (sent s 13) ≡ 3
+  cr-sends : length (sent s cr) ≡ 3
   unfolding sent eventText heard kindOf byKind
   cr-sends = rw (and-false (s .port .ended)) (by (judged (s .instrument .model) (held (s .port))))
     where
@@ -89,10 +90,10 @@ module _ (s : State) where
       by (Refused x) = refl
 
   -- a CR is one byte, and three are sent for it
-  pub cr-counts : (room : ℕ) → stateWithin s ≡ true → leastOutput ≤ room → (hostCall s (13 ∷ []) room .taken ≡ 1) × (hostCall s (13 ∷ []) room .written ≡ 3)
+  pub cr-counts : (room : ℕ) → stateWithin s ≡ true → leastOutput ≤ room → (hostCall s (cr ∷ []) room .taken ≡ 1) × (hostCall s (cr ∷ []) room .written ≡ 3)
   unfolding hosted taken said
   cr-counts room e h =
-      rw (enough-output leastOutput room (hosted s (13 ∷ []) room) e h, le-leb leastOutput room h, append-nil (sent s 13)) (refl, cr-sends)
+      rw (enough-output leastOutput room (hosted s (cr ∷ []) room) e h, le-leb leastOutput room h, append-nil (sent s cr)) (refl, cr-sends)
 
   -- ---- ticks, a reading, a power cycle
 

@@ -4,6 +4,7 @@ use mathlib.Core.List.{List, [], _++_}
 use mathlib.Core.Bool.{Bool, cond, _&&_}
 use lib.ListN.{length, take}
 use lib.Dec.{leb}
+use Rattle.ground.specs.Ranges.{inRange}
 use Rattle.gauges.specs.Readings.{withinLimits}
 use Rattle.gauges.specs.declared.reading.Reading.{Reading}
 use Rattle.settings.specs.Models.{modelOf, channels}
@@ -123,7 +124,7 @@ ticksBytes s n room = roomedBytes s (leastOutput * n) room (ticksText s n)
 
 -- a channel of the model, counted from 1
 abbrev pub isChannel : Model → ℕ → Bool
-isChannel model channel = leb 1 channel && leb channel (channels model)
+isChannel model channel = inRange 1 (channels model) channel
 
 -- a reading of a channel, counted from 0
 abbrev pub withReading : State → ℕ → Reading → State

@@ -21,7 +21,7 @@ fn streaming(state: State, out: &mut [u8]) -> Outcome {
 }
 
 // A reading of channel 1, +1.0000E+03 hPa from a linear gauge, and then one tick.
-fn measured(state: State, out: &mut [u8]) -> Outcome {
+fn read_and_tick(state: State, out: &mut [u8]) -> Outcome {
     let read = state.reading(1, 5, 0, 10000, 3);
     let next = read.state;
     next.tick(out)
@@ -56,7 +56,7 @@ fn main() {
     send(&out, asked.written);
     let set = streaming(asked.state, &mut out);
     send(&out, set.written);
-    let ticked = measured(set.state, &mut out);
+    let ticked = read_and_tick(set.state, &mut out);
     send(&out, ticked.written);
     let line = answered(ticked.state, &mut out);
     send(&out, line.written);

@@ -4,12 +4,13 @@ use mathlib.Core.Path.{_≡_, refl, sym, ap, _∙_}
 use mathlib.Core.List.{List, [], _∷_, _++_}
 use mathlib.Core.Bool.{true, false, _&&_, and-false, and-eq-true-iff}
 use mathlib.Core.Logic.{_⊎_, inl, inr}
+use mathlib.Mathlib.Data.Bool.Basic.{dichotomy}
 use native.Mathlib.Omega.{arith}
 use borrow.Author.Tests.{le-leb, lt-leb, leb-false, ne-eqb}
 use lib.ListN.{length, getD, take, drop, length-append}
 use lib.Seq.{take-append-seam, drop-append-add, drop-drop}
 use lib.Dec.{leb, eqb}
-use Rattle.ground.proofs.Cases.{never, true-or-false}
+use Rattle.ground.proofs.Cases.{never}
 use Rattle.text.specs.Hex.{isHexDigit, isHex, unhex, hex}
 use Rattle.text.specs.Control.{lf}
 use Rattle.text.proofs.HexDigits.{hex-length}
@@ -48,13 +49,13 @@ too-many s f h =
 -- what was read gives the reply of the whole line
 pub read-enough : (s : State) (line : List ℕ) → framed s (readBytes line) ≡ lineReply s line
 unfolding bytesOf framed
-read-enough s line = go (true-or-false (leb (length line) (2 * longestFrame))) (true-or-false (isHex line))
+read-enough s line = go (dichotomy (leb (length line) (2 * longestFrame))) (dichotomy (isHex line))
   where
-    go : (leb (length line) (2 * longestFrame) ≡ true) ⊎ (leb (length line) (2 * longestFrame) ≡ false) → (isHex line ≡ true) ⊎ (isHex line ≡ false)
+    go : (leb (length line) (2 * longestFrame) ≡ false) ⊎ (leb (length line) (2 * longestFrame) ≡ true) → (isHex line ≡ false) ⊎ (isHex line ≡ true)
         → framed s (readBytes line) ≡ lineReply s line
-    go (inl e) h = rw e
-    go (inr e) (inl h) = rw (e, h) (sym (too-many s (unhex line) (omega (arith, leb-false (length line) (2 * longestFrame) e, unhex-length line h))))
-    go (inr e) (inr h) = rw (e, h)
+    go (inr e) h = rw e
+    go (inl e) (inr h) = rw (e, h) (sym (too-many s (unhex line) (omega (arith, leb-false (length line) (2 * longestFrame) e, unhex-length line h))))
+    go (inl e) (inl h) = rw (e, h)
 
 -- ---- an output that was laid over twice
 

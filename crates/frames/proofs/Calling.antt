@@ -10,7 +10,8 @@ use lib.Seq.{take-all, take-length}
 use lib.Dec.{eqb}
 use lib.IntN.{ℤ}
 use mathlib.Core.Logic.{_⊎_, inl, inr}
-use Rattle.ground.proofs.Cases.{never, true-or-false, cond-cases}
+use mathlib.Mathlib.Data.Bool.Basic.{dichotomy}
+use Rattle.ground.proofs.Cases.{never, cond-cases}
 use Rattle.gauges.specs.Readings.{withinLimits}
 use Rattle.gauges.specs.declared.reading.Reading.{Reading}
 use Rattle.tpg.specs.Answers.{number, done, leastOutput}
@@ -20,7 +21,7 @@ use Rattle.tpg.specs.Calls.{admits, turnedAway, roomed, roomedBytes, hostText, 
 use Rattle.tpg.specs.declared.State.{State}
 use Rattle.tpg.specs.declared.answers.Outcome.{Outcome}
 use Rattle.tpg.proofs.Counts.{all-taken}
-use Rattle.frames.specs.Measured.{exponentOf, mantissaOf}
+use Rattle.frames.specs.Encoding.{exponentOf, mantissaOf}
 use Rattle.frames.specs.Frames.{silent, sendingFrame, hostFrame, readingOf, readingFrame, ticksFrame, modelNumber, freshFrame}
 use Rattle.frames.specs.Walk.{frameOutcome}
 use Rattle.frames.specs.declared.FrameOutcome.{FrameOutcome}
@@ -53,12 +54,12 @@ toldCall o = record { number = number (o .answer); state = o .state; written = o
 pub told-roomed : (s next : State) (least room count : ℕ) (bytes : List ℕ) → least ≤ room
     → (toldCall (roomed s least room (done next count (length bytes))) ≡ frameOutcome (sendingFrame s next bytes)) × (roomedBytes s least room bytes ≡ sendingFrame s next bytes .bytes)
 unfolding roomed roomedBytes admits turnedAway
-told-roomed s next least room count bytes h = go (true-or-false (stateWithin s))
+told-roomed s next least room count bytes h = go (dichotomy (stateWithin s))
   where
-    go : (stateWithin s ≡ true) ⊎ (stateWithin s ≡ false)
+    go : (stateWithin s ≡ false) ⊎ (stateWithin s ≡ true)
         → (toldCall (roomed s least room (done next count (length bytes))) ≡ frameOutcome (sendingFrame s next bytes)) × (roomedBytes s least room bytes ≡ sendingFrame s next bytes .bytes)
-    go (inl e) = rw (e, le-leb least room h) (refl, refl)
-    go (inr e) = rw e (refl, refl)
+    go (inl e) = rw e (refl, refl)
+    go (inr e) = rw (e, le-leb least room h) (refl, refl)
 
 pub host-told : (s : State) (l : List ℕ) (room : ℕ) → leastOutput * length l ≤ room → leastOutput ≤ room
     → (toldCall (hostCall s l room) ≡ frameOutcome (hostFrame s l)) × (hostBytes s l room ≡ hostFrame s l .bytes)

@@ -6,7 +6,7 @@ use mathlib.Core.Bool.{true, false}
 use lib.IntN.{pos, negsuc}
 use Rattle.tpg.specs.Calls.{readingCall}
 use Rattle.tpg.specs.declared.State.{State}
-use Rattle.frames.specs.Measured.{exponentOf, mantissaOf}
+use Rattle.frames.specs.Encoding.{exponentOf, mantissaOf}
 use Rattle.frames.specs.Frames.{noFrame, silent, readingFrame, framed}
 
 -- the bytes of a reading, whatever they are

@@ -13,7 +13,7 @@ use Rattle.tpg.specs.Steps.{after, said}
 use Rattle.tpg.specs.Calls.{freshCall, readingCall, cycleCall, afterTicks, ticksText}
 use Rattle.tpg.specs.declared.State.{State}
 use Rattle.tpg.specs.declared.answers.Outcome.{Outcome}
-use Rattle.frames.specs.Measured.{exponentOf, mantissaOf}
+use Rattle.frames.specs.Encoding.{exponentOf, mantissaOf}
 use Rattle.frames.specs.declared.FrameOutcome.{FrameOutcome}
 
 -- "one frame a line": its bytes; a line that is no hexadecimal has none

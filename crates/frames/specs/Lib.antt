@@ -1,3 +1,3 @@
 pub mod Frames
-pub mod Measured
+pub mod Encoding
 pub mod Walk

@@ -5,8 +5,8 @@ ghost use Rattle.tpg.specs.Steps.{over};
 ghost use Rattle.frames.specs.Frames.{answerCall, answerLine};
 use tpg::State;
 
+mod encoding;
 mod frame;
-mod measured;
 mod spread;
 mod taking;
 
@@ -26,7 +26,7 @@ pub struct FrameOutcome {
     pub written: usize,
 }
 
-fn handed(number: u8, state: State, written: usize) -> FrameOutcome
+pub(crate) fn handed(number: u8, state: State, written: usize) -> FrameOutcome
     ensures { λ r. ⌜ r ≡ record { number = number; state = state; written = written } ⌝ }
 {
     FrameOutcome {

@@ -8,8 +8,9 @@ ghost use Rattle.frames.specs.Frames.{longestFrame, mostSent, noFrame, h
 ghost use Rattle.frames.specs.Walk.{frameOutcome};
 use crate::FrameOutcome;
 use crate::LONGEST_FRAME;
-use crate::measured::exponent_of;
-use crate::measured::mantissa_of;
+use crate::encoding::exponent_of;
+use crate::encoding::mantissa_of;
+use crate::handed;
 use tpg::State;
 use tpg::answers::Outcome;
 
@@ -29,22 +30,11 @@ fn frame_outcome(o: Outcome) -> FrameOutcome
     }
 }
 
-// An answer that sends nothing.
-fn silent(number: u8, state: State) -> FrameOutcome
-    ensures { λ r. ⌜ r ≡ record { number = number; state = state; written = 0 } ⌝ }
-{
-    FrameOutcome {
-        number,
-        state,
-        written: 0,
-    }
-}
-
 // The answer to a frame of other form: nothing changes.
 fn no_frame(state: State) -> FrameOutcome
     ensures { λ r. ⌜ r ≡ frameOutcome (noFrame state) ⌝ }
 {
-    silent(NO_FRAME, state)
+    handed(NO_FRAME, state, 0)
 }
 
 fn take_host(state: State, frame: &[u8], out: &mut [u8]) -> FrameOutcome
@@ -94,9 +84,9 @@ fn take_fresh(state: State, byte: u8) -> FrameOutcome
     let number = answer.number();
     if number == 0 {
         let made = o.state;
-        return silent(number, made);
+        return handed(number, made, 0);
     }
-    silent(number, state)
+    handed(number, state, 0)
 }
 
 // The first byte; 0, which begins no frame, where there is none.

@@ -4,6 +4,7 @@ use mathlib.Core.Path.{_≡_, refl, sym, subst}
 use mathlib.Core.List.{List, [], _∷_}
 use mathlib.Core.Bool.{Bool, Bool·beq, true, false, _&&_, and-eq-true-iff}
 use mathlib.Core.Logic.{_≢_, ⊎-elim}
+use mathlib.Mathlib.Data.Bool.Basic.{dichotomy}
 use native.Mathlib.Omega.{arith}
 use borrow.Author.Tests.{eqb-true, eqb-false, lt-ltb, le-leb}
 use lib.Dec.{eqb, leb, ltb}
@@ -11,7 +12,7 @@ use lib.ListN.{length, getD, set, length-set}
 use lib.Seq.{getD-set-same, getD-set-other}
 use Rattle.ground.proofs.Tables.{tabled}
 use Rattle.ground.proofs.Ranges.{upto, upto-each, each-upto}
-use Rattle.ground.proofs.Cases.{true-or-false, or-right, cond-cases}
+use Rattle.ground.proofs.Cases.{or-right, cond-cases}
 use Rattle.ground.proofs.Members.{each-at}
 use Rattle.gauges.specs.Readings.{noReading, withinLimits}
 use Rattle.gauges.specs.Shown.{shownOf, switched}
@@ -145,9 +146,8 @@ module _ (s : Instrument) (channel : ℕ) (r : Reading) (t : InstrumentShaped s)
 
       read : (k : ℕ) → reading s k ≡ true → readingWithin (s .model) k (getD (set (s .readings) channel r) k noReading) ≡ true
       read k h =
-          ⊎-elim (λ (e : eqb k channel ≡ true). rw (eqb-true k channel e) own)
-          (λ (n : eqb k channel ≡ false). rw (getD-set-other (s .readings) channel k r noReading (eqb-false k channel n)) h)
-          (true-or-false (eqb k channel))
+          ⊎-elim (λ (n : eqb k channel ≡ false). rw (getD-set-other (s .readings) channel k r noReading (eqb-false k channel n)) h)
+          (λ (e : eqb k channel ≡ true). rw (eqb-true k channel e) own) (dichotomy (eqb k channel))
 
 -- ---- a line
 
@@ -179,7 +179,7 @@ module _ (s : Instrument) (r : Row) where
     -- after SPx that switching function is as it starts, and the others are as they were
     assigned : (k : ℕ) (w : Switching) → w .assignment ≡ firstNumber r
         → switchWithin (s .model) (set (s .settings .switching) k w) (set (s .switches) k (startsOn (s .model) (firstNumber r))) i ≡ true
-    assigned k w a = ⊎-elim (λ (e : eqb i k ≡ true). same (eqb-true i k e)) (λ (n : eqb i k ≡ false). other (eqb-false i k n)) (true-or-false (eqb i k))
+    assigned k w a = ⊎-elim (λ (n : eqb i k ≡ false). other (eqb-false i k n)) (λ (e : eqb i k ≡ true). same (eqb-true i k e)) (dichotomy (eqb i k))
       where
         on : Bool
         on = startsOn (s .model) (firstNumber r)

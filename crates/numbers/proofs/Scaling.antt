@@ -3,11 +3,12 @@ use Prim.Native.Nat.{ℕ, _+_, _*_, _^_, _≤_, _<_}
 use mathlib.Core.Path.{_≡_, refl}
 use mathlib.Core.Bool.{true, false, _&&_, and-eq-true-iff}
 use mathlib.Core.Logic.{⊎-elim}
+use mathlib.Mathlib.Data.Bool.Basic.{dichotomy}
 use native.Mathlib.Omega.{arith}
 use native.Mathlib.Nat.{mul-le-mul, mul-one}
 use lib.Dec.{leb}
 use lib.IntN.{ℤ, pos, negsuc, natAbs, _-ℤ_}
-use Rattle.ground.proofs.Cases.{in-range, true-or-false}
+use Rattle.ground.proofs.Cases.{in-range}
 use Rattle.numbers.specs.Numbers.{fiveDigits, between, isFive, signed}
 use Rattle.numbers.specs.Rounding.{isUsable, product, scaledBy, Nearest}
 use Rattle.numbers.specs.declared.value.Value.{Value}
@@ -71,8 +72,8 @@ scaled-not v r h = rw h
 -- and so does what is scaled by one
 pub scaled-one : (v : Value) (r : Ratio) → r .over ≡ 1 → r .under ≡ 1 → v ≡ scaledBy v r
 scaled-one v r o u =
-    ⊎-elim (λ (h : isFive v && isUsable r ≡ true).
+    ⊎-elim (scaled-not v r) (λ (h : isFive v && isUsable r ≡ true).
     let m = natAbs (v .mantissa) in
     let digits = in-range 10000 99999 m (and-eq-true-iff (fiveDigits m) (between (negsuc 98) (pos 99) (v .exponent)) .0 (and-eq-true-iff (isFive v) (isUsable r) .0 h .0) .0) in
     let same : product v r ≡ record { mantissa = m; exponent = v .exponent } = rw (o, u, mul-one m) (round-exact m (v .exponent) (digits .0) (digits .1)) in
-    rw (scaled-is v r h, same, signed-abs)) (scaled-not v r) (true-or-false (isFive v && isUsable r))
+    rw (scaled-is v r h, same, signed-abs)) (dichotomy (isFive v && isUsable r))

@@ -3,6 +3,7 @@ use Prim.Native.Nat.{ℕ, zero, suc, _+_, _-_, _^_, _≤_, _<_}
 use mathlib.Core.Path.{_≡_, refl, subst}
 use mathlib.Core.Bool.{Bool, true, false, cond, and-eq-true-iff}
 use mathlib.Core.Logic.{⊎-elim}
+use mathlib.Mathlib.Data.Bool.Basic.{dichotomy}
 use native.Mathlib.Omega.{arith}
 use borrow.Author.Tests.{ltb-true, leb-true, leb-false, le-leb, le-ltb}
 use lib.Dec.{T, leb, ltb}
@@ -10,7 +11,7 @@ use lib.IntN.{ℤ, pos, negsuc, negℤ, natAbs, subℕ, _+ℤ_, _-ℤ_, +ℤ-idl
 use lib.Signed.{mag, ltZ, nonNeg, natAbs-le}
 use mir.Syntax.{w32, w64}
 use mir.Val.{SFits}
-use Rattle.ground.proofs.Cases.{below, true-or-false}
+use Rattle.ground.proofs.Cases.{below}
 use Rattle.numbers.specs.Numbers.{between}
 
 mag-le : (z : ℤ) → mag z ≤ natAbs z
@@ -72,9 +73,8 @@ between-far k (negsuc n) h =
 
 pub near-between : (k : ℕ) (e : ℤ) → natAbs e ≤ suc k → between (negsuc k) (pos (suc k)) e ≡ true
 near-between k e h =
-    ⊎-elim (λ (t : between (negsuc k) (pos (suc k)) e ≡ true). t)
-    (λ (f : between (negsuc k) (pos (suc k)) e ≡ false). absurd (omega (arith, between-far k e f)))
-    (true-or-false (between (negsuc k) (pos (suc k)) e))
+    ⊎-elim (λ (f : between (negsuc k) (pos (suc k)) e ≡ false). absurd (omega (arith, between-far k e f)))
+    (λ (t : between (negsuc k) (pos (suc k)) e ≡ true). t) (dichotomy (between (negsuc k) (pos (suc k)) e))
 
 -- what depends on the sign alone is told by the test for a number below zero
 pub by-sign : {A : Type 0} (f : ℤ → A) (a b : A) → ((n : ℕ) → f (negsuc n) ≡ a) → ((n : ℕ) → f (pos n) ≡ b) → (z : ℤ) → f z ≡ cond (ltZ z (pos 0)) a b

@@ -3,11 +3,12 @@ use Prim.Native.Nat.{ℕ, _≤_, _<_, _^_}
 use mathlib.Core.Path.{_≡_, subst}
 use mathlib.Core.Bool.{true, false, and-eq-true-iff}
 use mathlib.Core.Logic.{⊎-elim}
+use mathlib.Mathlib.Data.Bool.Basic.{dichotomy}
 use native.Mathlib.Omega.{arith}
 use borrow.Author.Tests.{eq-eqb, ne-eqb, eqb-false}
 use lib.Dec.{eqb}
 use lib.IntN.{ℤ, pos, negsuc, natAbs}
-use Rattle.ground.proofs.Cases.{true-or-false, cond-cases, in-range}
+use Rattle.ground.proofs.Cases.{cond-cases, in-range}
 use Rattle.numbers.specs.Numbers.{fiveDigits, between, withinStops}
 use Rattle.numbers.specs.Rounding.{rounded, heldToStops, fittedTo, Nearest}
 use Rattle.numbers.specs.declared.threshold.Threshold.{Threshold}
@@ -39,9 +40,9 @@ module _ (n : ℕ) (x : ℤ) where
     -- a far power is outside without rounding
     pub fitted-far : n < 2 ^ 64 → between (negsuc 999) (pos 1000) x ≡ false → Outside ≡ fittedTo n x
     fitted-far m h =
-        ⊎-elim (λ (w : withinStops (rounded n 1 x) ≡ true).
+        ⊎-elim fitted-out (λ (w : withinStops (rounded n 1 x) ≡ true).
         absurd (omega (arith, between-far 999 x h, stops-near (rounded n 1 x) w, rounded-far n 1 (omega arith) m (omega arith) (omega arith) x)))
-        fitted-out (true-or-false (withinStops (rounded n 1 x)))
+        (dichotomy (withinStops (rounded n 1 x)))
 
 -- what is fitted, if it is a threshold, has P
 abbrev Held : (Threshold → Type 0) → Fitted → Type 0

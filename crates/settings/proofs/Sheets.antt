@@ -4,6 +4,7 @@ use mathlib.Core.Path.{_≡_, refl, sym, ap, _∙_, subst}
 use mathlib.Core.List.{List, [], _∷_, _++_, map}
 use mathlib.Core.Bool.{Bool, true, false, not, _&&_, and-eq-true-iff}
 use mathlib.Core.Logic.{_≢_, _⊎_, inl, inr, ⊎-elim, _↔_}
+use mathlib.Mathlib.Data.Bool.Basic.{dichotomy}
 use native.Mathlib.Omega.{arith}
 use borrow.Author.Tests.{ltb-true, eqb-true, eqb-false, not-true}
 use lib.ListN.{length, getD, take, drop, length-take}
@@ -11,7 +12,6 @@ use lib.Seq.{getD-take}
 use lib.Dec.{ltb, eqb}
 use Rattle.ground.specs.Members.{every, Each}
 use Rattle.ground.proofs.Tables.{alike}
-use Rattle.ground.proofs.Cases.{true-or-false}
 use Rattle.ground.proofs.Members.{each-map, each-both, each-all, each-take, each-drop, each-at, every-each, each-every}
 use Rattle.numbers.specs.declared.threshold.Threshold.{Threshold}
 use Rattle.settings.specs.Models.{defaults}
@@ -122,9 +122,9 @@ distinct-take (suc n) (x ∷ xs) d = (each-take _ n xs (d .0), distinct-take n x
 pub same-or-apart : (model : Model) {x y : Setting} → Holding x → Holding y → (y ≡ x) ⊎ (y ≢ x)
 same-or-apart model {x} {y} h g =
     ⊎-elim
-    (λ (t : eqb (line y) (line x) ≡ true). inl (sym (on-line model g) ∙ ap (sheetAt model) (eqb-true (line y) (line x) t) ∙ on-line model h))
     (λ (f : eqb (line y) (line x) ≡ false). inr (λ e. eqb-false (line y) (line x) f (ap line e)))
-    (true-or-false (eqb (line y) (line x)))
+    (λ (t : eqb (line y) (line x) ≡ true). inl (sym (on-line model g) ∙ ap (sheetAt model) (eqb-true (line y) (line x) t) ∙ on-line model h))
+    (dichotomy (eqb (line y) (line x)))
 
 -- ---- fields
 

@@ -4,6 +4,7 @@ use mathlib.Core.Path.{_≡_, refl, sym, ap, _∙_, subst}
 use mathlib.Core.List.{List, [], _∷_}
 use mathlib.Core.Bool.{Bool, true, false, cond}
 use mathlib.Core.Logic.{_≢_, ⊎-elim}
+use mathlib.Mathlib.Data.Bool.Basic.{dichotomy}
 use native.Mathlib.Omega.{arith}
 use borrow.Author.Tests.{eqb-true, eqb-false, lt-ltb}
 use lib.ListN.{length, getD, set}
@@ -11,7 +12,7 @@ use lib.Seq.{getD-set-same, getD-set-other}
 use lib.Dec.{ltb, eqb}
 use Rattle.ground.specs.Members.{every, Each}
 use Rattle.ground.proofs.Tables.{entry}
-use Rattle.ground.proofs.Cases.{true-or-false, never}
+use Rattle.ground.proofs.Cases.{never}
 use Rattle.ground.proofs.Members.{each-at, every-each}
 use Rattle.numbers.specs.declared.threshold.Threshold.{Threshold}
 use Rattle.settings.specs.Models.{channels, defaults}
@@ -148,9 +149,9 @@ set-fits ks k c q p d e h f w = places-row ks p d at
 
     at : (i : ℕ) → i < 3 → placed ks p d i ≡ true
     at i l =
-        ⊎-elim (λ (t : eqb i k ≡ true). same i l (eqb-true i k t))
+        ⊎-elim
         (λ (n : eqb i k ≡ false). there i (cell q i) (getD-set-other (listed q) k i c (plain 0) (eqb-false i k n)) (row-places ks q d w i l))
-        (true-or-false (eqb i k))
+        (λ (t : eqb i k ≡ true). same i l (eqb-true i k t)) (dichotomy (eqb i k))
 
 -- CAL has a cell for each channel
 channel-count : (model : Model) (k : Kind) → channels model ≡ length (perChannel model k)

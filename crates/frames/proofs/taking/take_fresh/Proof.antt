@@ -16,24 +16,24 @@ fresh-requires c κs = search needs
 number-requires : tie.Need-number-requires
 number-requires c κs = search needs
 
-silent-requires : tie.Need-silent-requires
-silent-requires c κs = search needs
+handed-requires : tie.Need-handed-requires
+handed-requires c κs = search needs
 
 returns : tie.Need-returns
 returns c =
     let b = c .before .before .before in
     let k = b .before .before .before .args in
-    c .silent .ensures
+    c .handed .ensures
     ∙ fresh-taken (k .state) (k .byte) _ (b .before .fresh .ensures ∙ ap (λ (n : ℕ). freshCall n 0) (b .before .before .model-number .ensures)) _ (b .number .ensures) (c .before .before .if1 .taken)
 
-silent-requires-2 : tie.Need-silent-requires-2
-silent-requires-2 c κs = search needs
+handed-requires-2 : tie.Need-handed-requires-2
+handed-requires-2 c κs = search needs
 
 returns-2 : tie.Need-returns-2
 returns-2 c =
     let b = c .before .before in
     let k = b .before .before .before .args in
-    c .silent2 .ensures
+    c .handed2 .ensures
     ∙ fresh-kept (k .state) (k .byte) _ (b .before .fresh .ensures ∙ ap (λ (n : ℕ). freshCall n 0) (b .before .before .model-number .ensures)) _ (b .number .ensures) (c .before .if1 .left)
 
 pub take-fresh-spec : {M : Type 1} → statement M
@@ -43,7 +43,7 @@ take-fresh-spec =
     model-number-requires
     fresh-requires
     number-requires
-    silent-requires
+    handed-requires
     returns
-    silent-requires-2
+    handed-requires-2
     returns-2)

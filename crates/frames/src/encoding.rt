@@ -1,6 +1,6 @@
 // A reading's number as a frame of the bench has it in bytes.
 ghost use mathlib.Core.Path.{_≡_};
-ghost use Rattle.frames.specs.Measured.{exponentOf, mantissaOf};
+ghost use Rattle.frames.specs.Encoding.{exponentOf, mantissaOf};
 
 // An exponent byte in two's complement.
 pub(crate) fn exponent_of(byte: u8) -> i32

@@ -1,4 +1,4 @@
--- `measured::mantissa_of`: three bytes fit, and so does what they make when it is negated.
+-- `encoding::mantissa_of`: three bytes fit, and so does what they make when it is negated.
 use Prim.Native.Nat.{ℕ, _+_, _*_, _^_, _<_}
 use mathlib.Core.Path.{_≡_}
 use lib.IntN.{pos, negℤ}
@@ -8,8 +8,8 @@ use mir.Facts.{toZ-ofZ, toZ-pos}
 use borrow.Author.Needs.{needs}
 use native.Mathlib.Omega.{arith}
 use Rattle.numbers.proofs.Signed.{small, zero-minus, abs-neg}
-use Rattle.frames.proofs.measured.mantissa_of.Statement.{statement}
-use Rattle.frames.proofs.measured.mantissa_of.Tie as tie
+use Rattle.frames.proofs.encoding.mantissa_of.Statement.{statement}
+use Rattle.frames.proofs.encoding.mantissa_of.Tie as tie
 
 abbrev made : tie.Start → ℕ
 made c = c .args .high * 65536 + c .args .middle * 256 + c .args .low

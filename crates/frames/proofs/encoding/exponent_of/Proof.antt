@@ -1,4 +1,4 @@
--- `measured::exponent_of`: a byte of 128 and above is 256 too high.
+-- `encoding::exponent_of`: a byte of 128 and above is 256 too high.
 use Prim.Native.Nat.{_<_}
 use mathlib.Core.Path.{_≡_}
 use borrow.Author.Tests.{lt-ltb, le-ltb}
@@ -9,8 +9,8 @@ use mir.Facts.{toZ-ofZ, toZ-pos}
 use borrow.Author.Needs.{needs}
 use native.Mathlib.Omega.{arith}
 use Rattle.numbers.proofs.Signed.{small, abs-minus}
-use Rattle.frames.proofs.measured.exponent_of.Statement.{statement}
-use Rattle.frames.proofs.measured.exponent_of.Tie as tie
+use Rattle.frames.proofs.encoding.exponent_of.Statement.{statement}
+use Rattle.frames.proofs.encoding.exponent_of.Tie as tie
 
 read : (c : tie.Start) → toZ w32 (c .args .byte) ≡ pos (c .args .byte)
 read c = let h : c .args .byte < 256 = search needs in toZ-pos w32 {n = c .args .byte} (omega arith)

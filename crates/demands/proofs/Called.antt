@@ -34,7 +34,7 @@ use Rattle.tpg.specs.declared.State.{State}
 use Rattle.tpg.specs.declared.answers.Outcome.{Outcome}
 use Rattle.tpg.proofs.Deciding.{byte-hosted}
 use Rattle.tpg.proofs.Refusals.{roomed-back, reading-back, cycle-back, untouched}
-use Rattle.tpg.proofs.StateLimits as kept
+use Rattle.tpg.proofs.StateLimits.{cycle-sound, fresh-call-sound, fresh-sound, host-sound, reading-sound, tick-sound, ticks-sound}
 use Rattle.tpg.proofs.StateLimits.{after-model}
 use Rattle.demands.specs.Calls.{Call, byte, host, reading, tick, ticks, cycle, outcome, callBytes, Refusal, refuses, lent, refusals, freshRefusals, firstGiven, afterCalls}
 use Rattle.demands.specs.Wire.{nakLine, byCr, ended}
@@ -172,12 +172,12 @@ refused-line s (b ∷ bs) others refused = refused-line (next s b) bs (others .1
 
 -- every call keeps the limits of the state
 pub call-sound : (s : State) → Sound s → (c : Call) → Sound (outcome s c .state)
-call-sound s k (byte b room) = subst Sound (ap (λ (o : Outcome). o .state) (byte-hosted s b room .0)) (kept.host-sound s k (b ∷ []) room)
-call-sound s k (host input room) = kept.host-sound s k input room
-call-sound s k (reading channel r) = kept.reading-sound s k channel r
-call-sound s k (tick room) = kept.tick-sound s k room
-call-sound s k (ticks n room) = kept.ticks-sound s k n room
-call-sound s k cycle = kept.cycle-sound s k
+call-sound s k (byte b room) = subst Sound (ap (λ (o : Outcome). o .state) (byte-hosted s b room .0)) (host-sound s k (b ∷ []) room)
+call-sound s k (host input room) = host-sound s k input room
+call-sound s k (reading channel r) = reading-sound s k channel r
+call-sound s k (tick room) = tick-sound s k room
+call-sound s k (ticks n room) = ticks-sound s k n room
+call-sound s k cycle = cycle-sound s k
 
 calls-sound : (cs : List Call) (s : State) → Sound s → Sound (afterCalls s cs)
 calls-sound [] s k = k
@@ -185,7 +185,7 @@ calls-sound (c ∷ cs) s k = calls-sound cs (outcome s c .state) (call-sound s k
 
 -- every state that calls can bring about from a fresh box is within the limits
 pub history-sound : (n serial : ℕ) (cs : List Call) → Sound (afterCalls (freshCall n serial .state) cs)
-history-sound n serial cs = calls-sound cs (freshCall n serial .state) (kept.fresh-call-sound n serial)
+history-sound n serial cs = calls-sound cs (freshCall n serial .state) (fresh-call-sound n serial)
 
 -- ---- the model
 
@@ -233,7 +233,7 @@ pub any-history : (model : Model) (m n : ℕ) → serialWithin m ≡ true → se
     → Boxes (afterCalls (freshBox model m) cs) (afterCalls (freshBox model n) ds)
 any-history model m n p q cs ds =
     record {
-      first = calls-sound cs (freshBox model m) (kept.fresh-sound model m p);
-      second = calls-sound ds (freshBox model n) (kept.fresh-sound model n q);
+      first = calls-sound cs (freshBox model m) (fresh-sound model m p);
+      second = calls-sound ds (freshBox model n) (fresh-sound model n q);
       model = calls-model cs (freshBox model m) ∙ sym (calls-model ds (freshBox model n));
     }

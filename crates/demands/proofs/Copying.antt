@@ -41,7 +41,7 @@ use Rattle.instrument.specs.Events.{written, applied}
 use Rattle.instrument.specs.Limits.{instrumentWithin}
 use Rattle.instrument.specs.Replies.{replyText}
 use Rattle.instrument.specs.declared.Instrument.{Instrument}
-use Rattle.instrument.proofs.InstrumentLimits as instrument
+use Rattle.instrument.proofs.InstrumentLimits.{instrument-parts}
 use Rattle.tpg.specs.States.{stateWithin, Sound}
 use Rattle.tpg.specs.Steps.{next, after, said}
 use Rattle.tpg.specs.declared.State.{State}
@@ -176,7 +176,7 @@ sheet-asked model =
 
 settings-within : (s : State) → Sound s → within (boxModel s) (boxSettings s) ≡ true
 unfolding stateWithin
-settings-within s k = instrument.parts (s .instrument) (and-eq-true-iff (instrumentWithin (s .instrument)) (portWithin (boxModel s) (s .port)) .0 (k .within) .0) .settings
+settings-within s k = instrument-parts (s .instrument) (and-eq-true-iff (instrumentWithin (s .instrument)) (portWithin (boxModel s) (s .port)) .0 (k .within) .0) .settings
 
 sheet-sent : (a : State) → Sound a → Each (Sent (boxModel a) (boxSettings a)) (sheet (boxModel a))
 sheet-sent a k =

@@ -30,7 +30,7 @@ use Rattle.instrument.specs.Events.{functionAt, isOn, started, following
 use Rattle.instrument.specs.Limits.{instrumentWithin, InstrumentShaped}
 use Rattle.instrument.specs.Replies.{shownAt, eachChannel, replyText, streamText}
 use Rattle.instrument.specs.declared.Instrument.{Instrument}
-use Rattle.instrument.proofs.InstrumentLimits.{four-at, parts}
+use Rattle.instrument.proofs.InstrumentLimits.{four-at, instrument-parts}
 
 -- ---- power-on and a reading
 
@@ -102,12 +102,12 @@ module _ (s : Instrument) where
 
 module _ (s : Instrument) where
   pub saved-within : instrumentWithin s ≡ true → within (s .model) (s .saved) ≡ true
-  saved-within w = parts s w .saved
+  saved-within w = instrument-parts s w .saved
 
   pub second-absent : s .model ≡ Tpg361 → instrumentWithin s ≡ true → getD (s .readings) 1 noReading .kind ≡ 6
   second-absent e w =
       let r = getD (s .readings) 1 noReading in
-      let h : eqb (r .kind) 6 ≡ true = and-eq-true-iff (withinLimits r) (eqb (r .kind) 6) .0 (rw e at (parts s w .readings 1 (omega arith))) .1 in
+      let h : eqb (r .kind) 6 ≡ true = and-eq-true-iff (withinLimits r) (eqb (r .kind) 6) .0 (rw e at (instrument-parts s w .readings 1 (omega arith))) .1 in
       eqb-true (r .kind) 6 h
 
   pub long-serial : 99999999 < s .serial → instrumentWithin s ≡ false

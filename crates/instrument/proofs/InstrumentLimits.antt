@@ -59,9 +59,9 @@ module _ (s : Instrument) where
     pub readings : (k : ℕ) → k ≤ 1 → reading k ≡ true
     pub switches : (i : ℕ) → i ≤ 3 → status i ≡ true
 
-  pub parts : instrumentWithin s ≡ true → Parts
+  pub instrument-parts : instrumentWithin s ≡ true → Parts
   unfolding instrumentWithin
-  parts w =
+  instrument-parts w =
       let a = and-eq-true-iff (serialWithin (s .serial)) _ .0 w in
       let b = and-eq-true-iff (within (s .model) (s .settings) && within (s .model) (s .saved)) _ .0 (a .1) in
       let c = and-eq-true-iff (within (s .model) (s .settings)) (within (s .model) (s .saved)) .0 (b .0) in
@@ -129,7 +129,7 @@ module _ (s : Instrument) (channel : ℕ) (r : Reading) (t : InstrumentShaped s)
   pub measured-within : instrumentWithin s ≡ true → channel < channels (s .model) → withinLimits r ≡ true → instrumentWithin (measured s channel r) ≡ true
   unfolding measured
   measured-within w c l =
-      let p = parts s w in
+      let p = instrument-parts s w in
       together (measured s channel r)
       (record {
         serial = p .serial;
@@ -230,7 +230,7 @@ module _ (s : Instrument) where
       → instrumentWithin (written s m r) ≡ true
   unfolding written
   written-within line m r t w e =
-      let p = parts s w in
+      let p = instrument-parts s w in
       together (written s m r)
       (record {
         serial = p .serial;

@@ -19,11 +19,11 @@ use Rattle.ports.specs.Line.{held}
 use Rattle.ports.specs.Limits.{portWithin}
 use Rattle.ports.specs.declared.Event.{Event}
 use Rattle.ports.specs.declared.Event.the-variants.{Silent, Line, Reply}
-use Rattle.ports.proofs.PortLimits as ports
+use Rattle.ports.proofs.PortLimits.{fresh-shaped, fresh-within, heard-line, heard-shaped, heard-within, ticked-shaped, ticked-within}
 use Rattle.instrument.specs.Events.{measured, written, applied}
 use Rattle.instrument.specs.Limits.{instrumentWithin, serialWithin, InstrumentShaped}
 use Rattle.instrument.specs.declared.Instrument.{Instrument}
-use Rattle.instrument.proofs.InstrumentLimits as instrument
+use Rattle.instrument.proofs.InstrumentLimits.{applied-shaped, applied-within, measured-shaped, measured-within, instrument-parts, started-shaped, started-within}
 use Rattle.tpg.specs.Answers.{answer, handed, leastOutput}
 use Rattle.tpg.specs.States.{stateWithin, freshBox, cycled, Sound}
 use Rattle.tpg.specs.Steps.{acted, hearing, next, after}
@@ -44,8 +44,8 @@ together s a b = rw (a, b)
 module _ (model : Model) (serial : ℕ) (h : serialWithin serial ≡ true) where
   pub fresh-sound : Sound (freshBox model serial)
   fresh-sound = record {
-    shaped = record { instrument = instrument.started-shaped model serial (defaults model) (defaults-shaped model); port = ports.fresh-shaped model };
-    within = together (freshBox model serial) (instrument.started-within model serial (defaults model) h (defaults-within model)) (ports.fresh-within model);
+    shaped = record { instrument = started-shaped model serial (defaults model) (defaults-shaped model); port = fresh-shaped model };
+    within = together (freshBox model serial) (started-within model serial (defaults model) h (defaults-within model)) (fresh-within model);
   }
 
 -- ---- one byte, and a run of bytes
@@ -70,15 +70,15 @@ after-model (b ∷ bs) s = after-model bs (next s b) ∙ acted-model (s .instrum
 
 acted-shaped : (s : Instrument) (e : Event) → InstrumentShaped s → InstrumentShaped (acted s e)
 acted-shaped s Silent w = w
-acted-shaped s (Line v) w = instrument.applied-shaped s v w
+acted-shaped s (Line v) w = applied-shaped s v w
 acted-shaped s (Reply m error) w = w
 
 module _ (s : State) (b : ℕ) (k : Sound s) where
   acted-within : (e : Event) → hearing s b .event ≡ e → instrumentWithin (acted (s .instrument) e) ≡ true
   acted-within Silent q = parts s (k .within) .0
   acted-within (Line v) q =
-      subst (λ u. instrumentWithin (applied (s .instrument) u) ≡ true) (sym (ports.heard-line (s .instrument .model) (s .port) b v q))
-      (instrument.applied-within (s .instrument) (held (s .port)) (k .shaped .instrument) (parts s (k .within) .0))
+      subst (λ u. instrumentWithin (applied (s .instrument) u) ≡ true) (sym (heard-line (s .instrument .model) (s .port) b v q))
+      (applied-within (s .instrument) (held (s .port)) (k .shaped .instrument) (parts s (k .within) .0))
   acted-within (Reply m error) q = parts s (k .within) .0
 
   pub next-sound : Sound (next s b)
@@ -88,10 +88,10 @@ module _ (s : State) (b : ℕ) (k : Sound s) where
       record {
         shaped = record {
           instrument = acted-shaped (s .instrument) e (k .shaped .instrument);
-          port = ports.heard-shaped (s .instrument .model) (s .port) b (k .shaped .port);
+          port = heard-shaped (s .instrument .model) (s .port) b (k .shaped .port);
         };
         within = together _ (acted-within e refl)
-            (rw (acted-model (s .instrument) e) (ports.heard-within (s .instrument .model) (s .port) b (k .shaped .port) (parts s (k .within) .1)));
+            (rw (acted-model (s .instrument) e) (heard-within (s .instrument .model) (s .port) b (k .shaped .port) (parts s (k .within) .1)));
       }
 
 pub after-sound : (bs : List ℕ) (s : State) → Sound s → Sound (after s bs)
@@ -104,8 +104,8 @@ after-sound (b ∷ bs) s k = after-sound bs (next s b) (next-sound s b k)
 pub counted-sound : (s : State) → Sound s → Sound (counted s .state)
 unfolding counted
 counted-sound s k = record {
-  shaped = record { instrument = k .shaped .instrument; port = ports.ticked-shaped (s .port) (k .shaped .port) };
-  within = together _ (parts s (k .within) .0) (ports.ticked-within (s .instrument .model) (s .port) (parts s (k .within) .1));
+  shaped = record { instrument = k .shaped .instrument; port = ticked-shaped (s .port) (k .shaped .port) };
+  within = together _ (parts s (k .within) .0) (ticked-within (s .instrument .model) (s .port) (parts s (k .within) .1));
 }
 
 pub after-ticks-sound : (n : ℕ) (s : State) → Sound s → Sound (afterTicks s n)
@@ -147,9 +147,9 @@ module _ (s : State) (k : Sound s) where
   read-sound channel r c w =
       let low = in-range 1 (channels (s .instrument .model)) channel c in
       record {
-        shaped = record { instrument = instrument.measured-shaped (s .instrument) (channel - 1) r (k .shaped .instrument); port = k .shaped .port };
+        shaped = record { instrument = measured-shaped (s .instrument) (channel - 1) r (k .shaped .instrument); port = k .shaped .port };
         within = together _
-            (instrument.measured-within (s .instrument) (channel - 1) r (k .shaped .instrument) (parts s (k .within) .0) (omega arith) w) (parts s (k .within) .1);
+            (measured-within (s .instrument) (channel - 1) r (k .shaped .instrument) (parts s (k .within) .0) (omega arith) w) (parts s (k .within) .1);
       }
 
   pub reading-sound : (channel : ℕ) (r : Reading) → Sound (readingCall s channel r .state)
@@ -163,11 +163,11 @@ module _ (s : State) (k : Sound s) where
   pub cycle-sound : Sound (cycleCall s .state)
   unfolding cycleCall
   cycle-sound =
-      let p = instrument.parts (s .instrument) (parts s (k .within) .0) in
+      let p = instrument-parts (s .instrument) (parts s (k .within) .0) in
       let model = s .instrument .model in
       cond-cases (λ o. Sound (o .state)) (stateWithin s) (handed (answer 0) (cycled s)) (handed (answer 1) s)
       (λ _. record {
-        shaped = record { instrument = instrument.started-shaped model (s .instrument .serial) (s .instrument .saved) (k .shaped .instrument .saved); port = ports.fresh-shaped model };
-        within = together (cycled s) (instrument.started-within model (s .instrument .serial) (s .instrument .saved) (p .serial) (p .saved)) (ports.fresh-within model);
+        shaped = record { instrument = started-shaped model (s .instrument .serial) (s .instrument .saved) (k .shaped .instrument .saved); port = fresh-shaped model };
+        within = together (cycled s) (started-within model (s .instrument .serial) (s .instrument .saved) (p .serial) (p .saved)) (fresh-within model);
       })
       (λ _. k)

@@ -1,4 +1,4 @@
--- A frame keeps the limits of the state, so that every line of a session is answered in a box within them.
+-- A frame keeps the limits of the state, so that every line of a run is answered in a box within them.
 use Prim.Native.Nat.{ℕ}
 use mathlib.Core.List.{List}
 use lib.ListN.{getD, drop}

@@ -11,6 +11,6 @@ use Rattle.frames.specs.declared.FrameOutcome.{FrameOutcome}
 abbrev pub readBytes : List ℕ → List ℕ
 readBytes line = cond (leb (length line) (2 * longestFrame)) (bytesOf line) []
 
--- a reply as the crate hands it on: the bytes stand in the output, and their count beside it
+-- an exchange as the crate hands it on: the bytes stand in the output, and their count beside it
 abbrev pub frameOutcome : Exchange → FrameOutcome
 frameOutcome r = record { number = r .number; state = r .state; written = length (r .bytes) }

@@ -12,16 +12,16 @@ use Rattle.ground.specs.Members.{every}
 -- ---- the places from i to b of a list
 
 module _ {A : Type 0} (p : A → Bool) (d : A) (l : List A) (i b : ℕ) (all : Bool) where
-  pub next : i < b → b ≤ length l
+  pub range-next : i < b → b ≤ length l
       → all && p (getD l i d) && every p (take (b - (i + 1)) (drop (i + 1) l)) ≡ all && every p (take (b - i) (drop i l))
   unfolding every
-  next h g =
+  range-next h g =
       let q : b - i ≡ suc (b - (i + 1)) = omega arith in
       rw (q, drop-cons l i d (omega arith), add-one i) (and-assoc all (p (getD l i d)) (every p (take (b - suc i) (drop (suc i) l))))
 
-  pub end : b ≤ i → all && every p (take (b - i) (drop i l)) ≡ all
+  pub range-end : b ≤ i → all && every p (take (b - i) (drop i l)) ≡ all
   unfolding every
-  end h = let q : b - i ≡ 0 = omega arith in rw q (and-true all)
+  range-end h = let q : b - i ≡ 0 = omega arith in rw q (and-true all)
 
 -- ---- all numbers up to n
 

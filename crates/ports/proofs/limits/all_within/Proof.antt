@@ -7,7 +7,7 @@ use borrow.Author.Needs.{needs}
 use native.Mathlib.Omega.{arith}
 use Rattle.ground.specs.Members.{every}
 use Rattle.ground.specs.Ranges.{inRange}
-use Rattle.ground.proofs.Ranges.{next, end}
+use Rattle.ground.proofs.Ranges.{range-next, range-end}
 use Rattle.ports.proofs.limits.all_within.Statement.{statement}
 use Rattle.ports.proofs.limits.all_within.Tie as tie
 
@@ -34,13 +34,13 @@ loop-again c =
     let a = c .before .before .args in
     let l = c .before .loop in
     let n : length (a .t1) ≡ 80 = search needs in
-    next (inRange (a .low) (a .high)) 0 (a .t1) (l .i) (a .b) (l .all) (c .loop-test .taken) (omega arith) ∙ l .inv
+    range-next (inRange (a .low) (a .high)) 0 (a .t1) (l .i) (a .b) (l .all) (c .loop-test .taken) (omega arith) ∙ l .inv
 
 returns : tie.Need-returns Inv-loop μ-loop
 returns c =
     let a = c .before .before .args in
     let l = c .before .loop in
-    sym (end (inRange (a .low) (a .high)) 0 (a .t1) (l .i) (a .b) (l .all) (c .loop-test .left)) ∙ l .inv
+    sym (range-end (inRange (a .low) (a .high)) 0 (a .t1) (l .i) (a .b) (l .all) (c .loop-test .left)) ∙ l .inv
 
 pub all-within-spec : {M : Type 1} → statement M
 all-within-spec =

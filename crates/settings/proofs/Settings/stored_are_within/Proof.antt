@@ -6,7 +6,7 @@ use lib.ListN.{getD, take, drop}
 use native.Mathlib.Omega.{arith}
 use borrow.Author.Needs.{needs}
 use Rattle.ground.specs.Members.{every}
-use Rattle.ground.proofs.Ranges.{next, end}
+use Rattle.ground.proofs.Ranges.{range-next, range-end}
 use Rattle.settings.specs.Mnemonics.{sheet}
 use Rattle.settings.specs.Limits.{rowWithin}
 use Rattle.settings.specs.declared.mnemonic.Setting.the-variants.{Uni}
@@ -62,13 +62,13 @@ loop-again c =
     let tested : c .pair-is-within .result ≡ p (getD (drop 8 (sheet (a .model))) (l .k) Uni) =
     c .pair-is-within .ensures
     ∙ rw (c .before .before .before .stored-kinds .ensures, test .before .before .defaults .ensures, ← stored-line (a .model) (l .k) (test .loop-test .taken)) in
-    (omega arith, rw tested (next p Uni (drop 8 (sheet (a .model))) (l .k) 9 (l .all) (test .loop-test .taken) (omega arith)) ∙ l .inv .1)
+    (omega arith, rw tested (range-next p Uni (drop 8 (sheet (a .model))) (l .k) 9 (l .all) (test .loop-test .taken) (omega arith)) ∙ l .inv .1)
 
 returns : tie.Need-returns Inv-loop μ-loop
 returns c =
     let l = c .before .loop in
     let a = c .before .before .before .args in
-    sym (end (rowWithin (a .model) (a .t1)) Uni (drop 8 (sheet (a .model))) (l .k) 9 (l .all) (c .loop-test .left)) ∙ l .inv .1
+    sym (range-end (rowWithin (a .model) (a .t1)) Uni (drop 8 (sheet (a .model))) (l .k) 9 (l .all) (c .loop-test .left)) ∙ l .inv .1
 
 pub stored-are-within-spec : {M : Type 1} → statement M
 stored-are-within-spec =

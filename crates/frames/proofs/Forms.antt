@@ -66,7 +66,7 @@ module _ (P : Exchange → Type 0) (s : State) (f : List ℕ) where
       (λ t. cond-cases P (eqb (getD f 0 0) 4 && eqb (length f) 2) _ _ (λ e. fresh)
       (λ m. cond-cases P (eqb (getD f 0 0) 5 && eqb (length f) 1) _ _ (λ e. cycle) (λ c. none)))))
 
--- what was told and laid down, of the reply that it is
+-- what was told and laid down, of the exchange that it is
 module _ (r q : Exchange) (e : r ≡ q) (t : FrameOutcome) (out after : List ℕ) where
   pub handed-on : (t ≡ frameOutcome q) × (after ≡ over (q .bytes) out) → (t ≡ frameOutcome r) × (after ≡ over (r .bytes) out)
   handed-on p = rw e p

@@ -1,4 +1,4 @@
--- `exponential::judge`: as many digits as are let in, a power behind them, and then their number is concluded.
+-- `exponential::compose`: as many digits as are let in, a power behind them, and then what their number is fitted to.
 use Prim.Native.Nat.{ℕ, _+_, _-_, _≤_, _<_}
 use mathlib.Core.Path.{_≡_, sym, ap, ap₂, _∙_, subst}
 use mathlib.Core.List.{_++_}

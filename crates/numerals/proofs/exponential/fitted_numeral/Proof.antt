@@ -1,4 +1,4 @@
--- `exponential::conclude`: what fits is within, what does not is out of range.
+-- `exponential::fitted_numeral`: what fits is within, what does not is out of range.
 use mathlib.Core.Path.{sym, ap, _∙_}
 use mir.Facts.{toZ-ofZ}
 use borrow.Author.Needs.{needs}

@@ -2,9 +2,10 @@
 use Prim.Native.Nat.{ℕ, zero, suc}
 use mathlib.Core.Path.{_≡_, refl, sym, ap, _∙_}
 use mathlib.Core.List.{List, [], _∷_, _++_, map}
-use mathlib.Core.Bool.{Bool, true, _&&_, and-true, and-assoc, and-eq-true-iff}
+use mathlib.Core.Bool.{Bool, true, false, cond, _&&_, and-true, and-assoc, and-eq-true-iff}
 use lib.ListN.{getD, take, drop}
-use Rattle.ground.specs.Members.{Each, every}
+use Rattle.ground.specs.Members.{Each, every, those}
+use Rattle.ground.proofs.Cases.{cond-cases, never}
 
 module _ {A : Type 0} where
   pub each-map : (P Q : A → Type 0) → ((x : A) → P x → Q x) → (xs : List A) → Each P xs → Each Q xs
@@ -49,6 +50,25 @@ module _ {A : Type 0} where
   unfolding every
   each-every p [] e = refl
   each-every p (x ∷ xs) e = rw (e .0) (each-every p xs (e .1))
+
+-- those of which a test holds
+module _ {A : Type 0} where
+  pub each-those : (P : A → Type 0) (p : A → Bool) (xs : List A) → Each P xs → Each P (those p xs)
+  each-those P p [] e = tt
+  each-those P p (x ∷ xs) e = cond-cases (Each P) (p x) (x ∷ those p xs) (those p xs) (λ _. (e .0, each-those P p xs (e .1))) (λ _. each-those P p xs (e .1))
+
+  pub those-each : (p : A → Bool) (xs : List A) → Each (λ x. p x ≡ true) (those p xs)
+  those-each p [] = tt
+  those-each p (x ∷ xs) = cond-cases (Each (λ y. p y ≡ true)) (p x) (x ∷ those p xs) (those p xs) (λ t. (t, those-each p xs)) (λ _. those-each p xs)
+
+  -- what holds of them holds of every member for which the test does
+  pub each-taken : (P : A → Type 0) (p : A → Bool) (xs : List A) → Each P (those p xs) → Each (λ x. p x ≡ true → P x) xs
+  each-taken P p [] e = tt
+  each-taken P p (x ∷ xs) e = by (p x) refl e (each-taken P p xs)
+    where
+      by : (t : Bool) → p x ≡ t → Each P (cond t (x ∷ those p xs) (those p xs)) → (Each P (those p xs) → Each (λ y. p y ≡ true → P y) xs) → Each (λ y. p y ≡ true → P y) (x ∷ xs)
+      by true q e f = ((λ _. e .0), f (e .1))
+      by false q e f = ((λ t. never (cc)), f e)
 
 pub map-each : {A B : Type 0} (f g : A → B) (xs : List A) → map f xs ≡ map g xs → Each (λ x. f x ≡ g x) xs
 map-each f g [] e = tt

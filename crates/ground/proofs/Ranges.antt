@@ -47,3 +47,12 @@ upto-three P a b c d (suc zero) h = b
 upto-three P a b c d (suc (suc zero)) h = c
 upto-three P a b c d (suc (suc (suc zero))) h = d
 upto-three P a b c d (suc (suc (suc (suc m)))) h = absurd (omega arith)
+
+-- a number that is none of the first n
+abbrev pub Others : ℕ → ℕ → Type 0
+Others zero k = Unit {0}
+Others (suc n) k = Others n k × (k ≡ n → ⊥)
+
+pub others-past : (n k : ℕ) → Others n k → n ≤ k
+others-past zero k o = omega arith
+others-past (suc n) k o = let l = others-past n k (o .0) in let d = o .1 in omega arith

@@ -1,95 +1,145 @@
--- Which selections a model can answer.
-use Prim.Native.Nat.{ℕ, _≤_, _<_}
-use mathlib.Core.Path.{_≡_, refl, sym}
-use mathlib.Core.List.{List, [], _∷_}
-use mathlib.Core.Bool.{true, false, _&&_, and-true, and-false}
+-- Which selections a model can answer, and which of them is the error word.
+use Prim.Native.Nat.{ℕ, zero, suc, _≤_, _<_}
+use mathlib.Core.Path.{_≡_, refl, sym, ap, _∙_}
+use mathlib.Core.Bool.{Bool·beq, true, false, and-true, and-false}
 use mathlib.Core.Logic.{⊎-elim}
+use mathlib.Mathlib.Data.Bool.Basic.{dichotomy}
 use native.Mathlib.Omega.{arith}
-use borrow.Author.Tests.{lt-ltb, le-ltb}
-use lib.ListN.{length, replicate, drop-of-length-le, List·getD-eq-default}
+use borrow.Author.Tests.{ltb-true}
 use lib.Dec.{ltb}
 use Rattle.ground.specs.Members.{every, Each}
-use Rattle.ground.proofs.Tables.{entries, everywhere}
-use Rattle.ground.proofs.Cases.{below}
-use Rattle.ground.proofs.Members.{each-map, every-each}
+use Rattle.ground.proofs.Cases.{below, beq-same, cond-cases}
+use Rattle.ground.proofs.Members.{each-map, each-at, every-each, map-each}
 use Rattle.text.specs.Text.{ascii}
 use Rattle.settings.specs.Models.{channels}
-use Rattle.settings.specs.Mnemonics.{storedNames, known, name, same, found, recognised, channelOf, isKnown, hasReply, answers}
+use Rattle.settings.specs.Table.{TableRow, nothing, switchings, storedTable, switchingEntry, storedEntry, settingEntry}
+use Rattle.settings.specs.Mnemonics.{held, takes, sheet, others, setting, known, name, same, found, recognised, isKnown, channelOf, isThere, answers, isErr}
 use Rattle.settings.specs.declared.model.Model.{Model}
-use Rattle.settings.specs.declared.model.Model.the-variants.{Tpg361, Tpg362}
 use Rattle.settings.specs.declared.mnemonic.Setting.{Setting}
-use Rattle.settings.specs.declared.mnemonic.Setting.the-variants.{Uni, Fil, Cal, Dcd, Sp, Stored}
+use Rattle.settings.specs.declared.mnemonic.Setting.the-variants.{Uni, Cal, Sp, Stored}
 use Rattle.settings.specs.declared.mnemonic.Query.{Query}
 use Rattle.settings.specs.declared.mnemonic.Query.the-variants.{Sps, Pr, Prx, Tid, Ayt, Err}
+use Rattle.settings.specs.declared.mnemonic.Replying.{Replying}
+use Rattle.settings.specs.declared.mnemonic.Replying.the-variants.{OfSetting, Cf, OfQuery}
 use Rattle.settings.specs.declared.mnemonic.Mnemonic.{Mnemonic}
-use Rattle.settings.specs.declared.mnemonic.Mnemonic.the-variants.{OfSetting, Cf, OfQuery}
-use Rattle.settings.proofs.Names.{not-three}
+use Rattle.settings.specs.declared.mnemonic.Mnemonic.the-variants.{OfReplying, Com, Sav}
+use Rattle.settings.specs.declared.mnemonic.Named.the-variants.{Unknown}
+use Rattle.settings.proofs.Every.{every-model, tested, channels-few}
+use Rattle.settings.proofs.Tabled.{switching-past, stored-past}
+use Rattle.settings.proofs.Storing.{Holding}
+use Rattle.settings.proofs.Storing.Holding.{uni, cal, sp, kept}
+use Rattle.settings.proofs.Sheets.{held-each, others-each}
 
--- ---- settings by their numbers
+-- ---- settings
 
--- a family of n, whose names past the last have another length
-family : (model : Model) (names : ℕ → List ℕ) (n : ℕ) → entries (λ (k : ℕ). isKnown (recognised model (names k))) n 0 ≡ replicate n true
-    → ((k : ℕ) → n ≤ k → length (names k) ≡ 3 → ⊥) → (k : ℕ) → ltb k n ≡ isKnown (recognised model (names k))
-family model names n t past k =
-    ⊎-elim (λ (l : k < n). rw (lt-ltb k n l) (sym (everywhere (λ (j : ℕ). isKnown (recognised model (names j))) n t k l)))
-    (λ (g : n ≤ k). rw (le-ltb k n g, not-three model (names k) (past k g))) (below k n)
+-- a number that is none of its family has a name that is not known
+no-name : (model : Model) → recognised model (nothing .name) ≡ Unknown
+unfolding recognised known sheet found same switchingEntry storedEntry
+no-name = every-model (λ model. recognised model (nothing .name) ≡ Unknown) (refl, (refl, tt))
 
-pub sp-known : (model : Model) (k : ℕ) → ltb k 4 ≡ isKnown (recognised model (name (OfSetting (Sp k))))
-unfolding recognised known found same
-sp-known model = family model (λ (k : ℕ). name (OfSetting (Sp k))) 4 refl (λ k g e. absurd (let d = drop-of-length-le (ascii "1234") {i = k} g in omega (arith, rw d at e)))
+-- what is held is known exactly where the model takes it
+held-known : (model : Model) → Each (λ x. Bool·beq (takes model x) (isKnown (recognised model (name (setting x)))) ≡ true) held
+unfolding recognised known sheet found same switchingEntry storedEntry every
+held-known model =
+    every-each (λ x. Bool·beq (takes model x) (isKnown (recognised model (name (setting x))))) held
+    (tested (λ m. every (λ x. Bool·beq (takes m x) (isKnown (recognised m (name (setting x))))) held) refl model)
 
-pub stored-known : (model : Model) (k : ℕ) → ltb k 9 ≡ isKnown (recognised model (name (OfSetting (Stored k))))
-unfolding recognised known found same
-stored-known model = family model (λ (k : ℕ). name (OfSetting (Stored k))) 9 refl (λ k g e. absurd (let d = List·getD-eq-default storedNames [] g in omega (arith, rw d at e)))
-
--- those without a number
-pub plain-known : (model : Model) → Each (λ (x : Setting). true ≡ isKnown (recognised model (name (OfSetting x)))) (Uni ∷ Fil ∷ Cal ∷ Dcd ∷ [])
-unfolding recognised known found same
-plain-known model = (refl, (refl, (refl, (refl, tt))))
-
--- ---- what is there on the model
-
-channelled : (model : Model) (f : ℕ → Mnemonic) → entries (λ (k : ℕ). isKnown (recognised model (name (f k)))) 2 0 ≡ replicate 2 true
-    → (k : ℕ) → ltb k (channels model) ≡ isKnown (recognised model (name (f k))) && (ltb k (channels model) && true)
-channelled model f t k =
-    ⊎-elim (λ (l : k < channels model). rw (lt-ltb k (channels model) l, everywhere (λ (j : ℕ). isKnown (recognised model (name (f j)))) 2 t k (two model l)))
-    (λ (g : channels model ≤ k). rw (le-ltb k (channels model) g) (sym (and-false (isKnown (recognised model (name (f k))))))) (below k (channels model))
+setting-known : (model : Model) (x : Setting) → takes model x ≡ isKnown (recognised model (name (setting x)))
+setting-known model x = by x
   where
-    two : (model : Model) → k < channels model → k < 2
-    two Tpg361 l = omega arith
-    two Tpg362 l = l
+    here : (x : Setting) → Holding x → takes model x ≡ isKnown (recognised model (name (setting x)))
+    here x h = beq-same _ _ (held-each (λ x. Bool·beq (takes model x) (isKnown (recognised model (name (setting x)))) ≡ true) (held-known model) x h)
 
-pub factor-answers : (model : Model) (k : ℕ) → ltb k (channels model) ≡ answers model (Cf k)
-unfolding recognised known found same answers
-factor-answers model = channelled model Cf refl
+    none : (x : Setting) → settingEntry x ≡ nothing → takes model x ≡ isKnown (recognised model (name (setting x)))
+    none x e =
+        ap (λ (r : TableRow). ltb 0 (r .fields model .count)) e
+        ∙ sym (ap (λ (r : TableRow). isKnown (recognised model (r .name))) e ∙ ap isKnown (no-name model))
 
-pub query-answers : (model : Model) (q : Query) → ltb (channelOf (OfQuery q)) (channels model) ≡ answers model (OfQuery q)
-unfolding recognised known found same answers
-query-answers model (Pr k) = channelled model (λ (k : ℕ). OfQuery (Pr k)) refl k
-query-answers model Sps = channelled model (λ (k : ℕ). OfQuery Sps) refl 0
-query-answers model Prx = channelled model (λ (k : ℕ). OfQuery Prx) refl 0
-query-answers model Tid = channelled model (λ (k : ℕ). OfQuery Tid) refl 0
-query-answers model Ayt = channelled model (λ (k : ℕ). OfQuery Ayt) refl 0
-query-answers model Err = channelled model (λ (k : ℕ). OfQuery Err) refl 0
+    by : (x : Setting) → takes model x ≡ isKnown (recognised model (name (setting x)))
+    by Uni = here Uni uni
+    by Cal = here Cal cal
+    by (Sp k) = ⊎-elim (λ (l : k < 4). here (Sp k) (sp k l)) (λ (g : 4 ≤ k). none (Sp k) (switching-past k g)) (below k 4)
+    by (Stored k) = ⊎-elim (λ (l : k < 11). here (Stored k) (kept k l)) (λ (g : 11 ≤ k). none (Stored k) (stored-past k g)) (below k 11)
 
-pub setting-answers : (model : Model) (x : Setting) → isKnown (recognised model (name (OfSetting x))) ≡ answers model (OfSetting x)
+-- every model has a first channel
+first-there : (model : Model) → ltb 0 (channels model) ≡ true
+unfolding every
+first-there = tested (λ model. ltb 0 (channels model)) refl
+
+pub setting-answers : (model : Model) (x : Setting) → takes model x ≡ answers model (OfSetting x)
 unfolding answers
-setting-answers Tpg361 x = sym (and-true (isKnown (recognised Tpg361 (name (OfSetting x)))))
-setting-answers Tpg362 x = sym (and-true (isKnown (recognised Tpg362 (name (OfSetting x)))))
+setting-answers model x = rw (first-there model) (setting-known model x ∙ sym (and-true (isKnown (recognised model (name (setting x))))))
 
-pub no-answer : (model : Model) (m : Mnemonic) → hasReply m ≡ false → false ≡ answers model m
-unfolding answers
-no-answer model m e = rw (e, and-false (ltb (channelOf m) (channels model))) (sym (and-false (isKnown (recognised model (name m)))))
+-- ---- all that are known
 
--- ---- what is known, there and has a reply
+known-named : (model : Model) → Each (λ m. isKnown (recognised model (name m)) ≡ true) (known model)
+unfolding recognised known sheet found same switchingEntry storedEntry every
+known-named model =
+    every-each (λ m. isKnown (recognised model (name m))) (known model)
+    (tested (λ model. every (λ m. isKnown (recognised model (name m))) (known model)) refl model)
 
-known-named : (model : Model) → every (λ (m : Mnemonic). isKnown (recognised model (name m))) (known model) ≡ true
-unfolding known recognised found same every
-known-named model = refl
+module _ (model : Model) where
+  -- what is known and there is answered
+  there-answers : (a : Replying) → (isThere model (OfReplying a) ≡ true → isKnown (recognised model (name (OfReplying a))) ≡ true) → isThere model (OfReplying a) ≡ answers model a
+  unfolding answers
+  there-answers a k =
+      ⊎-elim (λ (f : isThere model (OfReplying a) ≡ false). rw f (sym (and-false (isKnown (recognised model (name (OfReplying a)))))))
+      (λ (t : isThere model (OfReplying a) ≡ true). rw (t, k t)) (dichotomy (isThere model (OfReplying a)))
 
-pub known-answers : (model : Model) → Each (λ (m : Mnemonic). channelOf m < channels model → hasReply m ≡ true → answers model m ≡ true) (known model)
-unfolding answers
-known-answers model =
-    each-map (λ (m : Mnemonic). isKnown (recognised model (name m)) ≡ true) _
-    (λ m k l e. rw (k, lt-ltb (channelOf m) (channels model) l, e)) (known model)
-    (every-each (λ (m : Mnemonic). isKnown (recognised model (name m))) (known model) (known-named model))
+  -- what a mnemonic that is known selects is answered, if it selects anything
+  abbrev pub Answered : Mnemonic → Type 0
+  Answered (OfReplying a) = isThere model (OfReplying a) ≡ true → answers model a ≡ true
+  Answered Com = Unit {0}
+  Answered Sav = Unit {0}
+
+  pub known-answers : Each Answered (known model)
+  known-answers = each-map _ Answered by (known model) (known-named model)
+    where
+      by : (m : Mnemonic) → isKnown (recognised model (name m)) ≡ true → Answered m
+      by (OfReplying a) k = λ t. sym (there-answers a (λ _. k)) ∙ t
+      by Com k = tt
+      by Sav k = tt
+
+  -- a family of two is known for the channels that there are
+  two-answer : (f : ℕ → Replying) → ((k : ℕ) → channelOf (f k) ≡ k) → ((k : ℕ) → k < 2 → isKnown (recognised model (name (OfReplying (f k)))) ≡ true) → (k : ℕ) → isThere model (OfReplying (f k)) ≡ answers model (f k)
+  two-answer f c e k =
+      there-answers (f k) (λ t. let l = ltb-true (channelOf (f k)) (channels model) t in e k (omega (arith, channels-few model, c k)))
+
+  pub factor-answers : (k : ℕ) → isThere model (OfReplying (Cf k)) ≡ answers model (Cf k)
+  factor-answers = two-answer Cf (λ k. refl) known
+    where
+      known : (k : ℕ) → k < 2 → isKnown (recognised model (name (OfReplying (Cf k)))) ≡ true
+      known zero h = others-each _ model (known-named model) .0
+      known (suc zero) h = others-each _ model (known-named model) .1 .0
+      known (suc (suc k)) h = absurd (omega arith)
+
+  pub query-answers : (q : Query) → isThere model (OfReplying (OfQuery q)) ≡ answers model (OfQuery q)
+  query-answers q = by q
+    where
+      e : Each (λ m. isKnown (recognised model (name m)) ≡ true) others
+      e = others-each _ model (known-named model)
+
+      known : (k : ℕ) → k < 2 → isKnown (recognised model (name (OfReplying (OfQuery (Pr k))))) ≡ true
+      known zero h = e .1 .1 .1 .0
+      known (suc zero) h = e .1 .1 .1 .1 .0
+      known (suc (suc k)) h = absurd (omega arith)
+
+      by : (q : Query) → isThere model (OfReplying (OfQuery q)) ≡ answers model (OfQuery q)
+      by Sps = there-answers (OfQuery Sps) (λ _. e .1 .1 .0)
+      by (Pr k) = two-answer (λ k. OfQuery (Pr k)) (λ k. refl) known k
+      by Prx = there-answers (OfQuery Prx) (λ _. e .1 .1 .1 .1 .1 .0)
+      by Tid = there-answers (OfQuery Tid) (λ _. e .1 .1 .1 .1 .1 .1 .0)
+      by Ayt = there-answers (OfQuery Ayt) (λ _. e .1 .1 .1 .1 .1 .1 .1 .0)
+      by Err = there-answers (OfQuery Err) (λ _. e .1 .1 .1 .1 .1 .1 .1 .1 .0)
+
+-- ---- no setting is the error word
+
+abbrev unlike : TableRow → Type 0
+unlike e = false ≡ same (e .name) (ascii "ERR")
+
+pub setting-not-err : (x : Setting) → false ≡ isErr (OfSetting x)
+unfolding isErr same switchingEntry storedEntry
+setting-not-err Uni = refl
+setting-not-err Cal = refl
+setting-not-err (Sp k) = cond-cases unlike (ltb k 4) (switchings k) nothing (λ _. refl) (λ _. refl)
+setting-not-err (Stored k) = each-at unlike storedTable nothing refl (map-each (λ e. false) (λ e. same (e .name) (ascii "ERR")) storedTable refl) k

@@ -5,16 +5,17 @@ use mathlib.Core.Path.{_≡_, refl}
 use mathlib.Core.Bool.{true, false}
 use mathlib.Core.List.{List, [], _∷_, map}
 use lib.IntN.{negsuc}
-use lib.ListN.{drop, replicate}
+use lib.ListN.{drop, replicate, set}
 use Rattle.ground.specs.Members.{every}
 use Rattle.ground.proofs.Tables.{entries}
 use Rattle.text.specs.Text.{ascii}
 use Rattle.numbers.specs.declared.threshold.Threshold.{Threshold}
-use Rattle.settings.specs.Models.{modelOf, channels, names, powerOnMode, startsOn, follows, agrees, defaults}
-use Rattle.settings.specs.Mnemonics.{sheet, sheetAt, settingName, known, same, found, recognised, channelOf, isErr}
-use Rattle.settings.specs.Kinds.{storedKinds}
-use Rattle.settings.specs.Rows.{pairRow, row, listed, firstNumber, withFilters}
-use Rattle.settings.specs.Limits.{within}
+use Rattle.settings.specs.Models.{modelOf, channels, names, powerOnMode, startsOn, follows, agrees}
+use Rattle.settings.specs.Table.{switchingEntry, storedEntry, defaults}
+use Rattle.settings.specs.Mnemonics.{held, sheet, sheetAt, setting, known, name, same, found, recognised, channelOf, isErr}
+use Rattle.settings.specs.Cells.{pairRow, firstNumber, listed}
+use Rattle.settings.specs.Rows.{row, withStored}
+use Rattle.settings.specs.Limits.{cellsFit, within}
 use Rattle.settings.specs.declared.model.Model.{Model}
 use Rattle.settings.specs.declared.model.Model.the-variants.{Tpg361, Tpg362}
 use Rattle.settings.specs.declared.model.Numbered.the-variants.{One, NoModel}
@@ -22,12 +23,11 @@ use Rattle.settings.specs.declared.mnemonic.Setting.{Setting}
 use Rattle.settings.specs.declared.mnemonic.Setting.the-variants.{Sp}
 use Rattle.settings.specs.declared.mnemonic.Query.the-variants.{Pr, Ayt, Err}
 use Rattle.settings.specs.declared.mnemonic.Named.the-variants.{Known, Unknown}
-use Rattle.settings.specs.declared.mnemonic.Mnemonic.the-variants.{Cf, OfQuery, Sav}
+use Rattle.settings.specs.declared.mnemonic.Replying.the-variants.{Cf, OfQuery}
+use Rattle.settings.specs.declared.mnemonic.Mnemonic.the-variants.{OfReplying, Sav}
+use Rattle.settings.proofs.Every.{models}
 
 -- ---- models
-
-abbrev models : List Model
-models = Tpg361 ∷ Tpg362 ∷ []
 
 pub model-numbers : map modelOf (361 ∷ 362 ∷ 363 ∷ []) ≡ One Tpg361 ∷ One Tpg362 ∷ NoModel ∷ []
 model-numbers = refl
@@ -58,14 +58,17 @@ module _ (model : Model) where
 -- ---- mnemonics
 
 -- the lines of the sheet, and one past the last
-pub sheet-names : (model : Model) → entries (λ (i : ℕ). settingName (sheetAt model i)) 18 0 ≡ map ascii ("UNI" ∷ "FIL" ∷ "CAL" ∷ "DCD" ∷ "SP1" ∷ "SP2" ∷ "SP3" ∷ "SP4" ∷ "ERA" ∷ "EVA" ∷ "FMT" ∷ "LNG" ∷ "NAD" ∷ "PRE" ∷ "PRO" ∷ "PUC" ∷ "DCS" ∷ "UNI" ∷ [])
-sheet-names model = refl
+pub sheet-names : map (λ (model : Model). entries (λ (i : ℕ). name (setting (sheetAt model i))) 18 0) models ≡ replicate 2 (map ascii ("UNI" ∷ "FIL" ∷ "CAL" ∷ "DCD" ∷ "SP1" ∷ "SP2" ∷ "SP3" ∷ "SP4" ∷ "ERA" ∷ "EVA" ∷ "FMT" ∷ "LNG" ∷ "NAD" ∷ "PRE" ∷ "PRO" ∷ "PUC" ∷ "DCS" ∷ "UNI" ∷ []))
+unfolding sheet switchingEntry storedEntry
+sheet-names = refl
 
-pub words : (model : Model) → map (λ (w : String). recognised model (ascii w)) ("PR1" ∷ "PR2" ∷ "ERR" ∷ "SAV" ∷ "SAW" ∷ []) ≡ Known (OfQuery (Pr 0)) ∷ Known (OfQuery (Pr 1)) ∷ Known (OfQuery Err) ∷ Known Sav ∷ Unknown ∷ []
-unfolding known same found recognised
-words model = refl
+pub words : map (λ (model : Model). map (λ (w : String). recognised model (ascii w)) ("PR1" ∷ "PR2" ∷ "ERR" ∷ "SAV" ∷ "SAW" ∷ [])) models
+    ≡ replicate 2 (Known (OfReplying (OfQuery (Pr 0))) ∷ Known (OfReplying (OfQuery (Pr 1))) ∷ Known (OfReplying (OfQuery Err)) ∷ Known Sav ∷ Unknown ∷ [])
+unfolding sheet known same found recognised switchingEntry storedEntry
+words = refl
 
 pub err-alone : map isErr (OfQuery Err ∷ OfQuery Ayt ∷ []) ≡ true ∷ false ∷ []
+unfolding isErr same
 err-alone = refl
 
 -- PR2 and CF2, the channels counted from 0
@@ -74,8 +77,8 @@ second-channel = refl
 
 -- ---- settings
 
--- the first cell of each line of the sheet
-pub default-numbers : (model : Model) → map (λ (x : Setting). firstNumber (row (defaults model) x)) (sheet model) ≡ 4 ∷ 2 ∷ 1000 ∷ 0 ∷ 0 ∷ 0 ∷ 0 ∷ 0 ∷ 0 ∷ 0 ∷ 0 ∷ 0 ∷ 1 ∷ 0 ∷ 0 ∷ 0 ∷ 0 ∷ []
+-- the first cell of each
+pub default-numbers : (model : Model) → map (λ (x : Setting). firstNumber (row (defaults model) x)) held ≡ 4 ∷ 2 ∷ 1000 ∷ 0 ∷ 0 ∷ 0 ∷ 0 ∷ 0 ∷ 0 ∷ 0 ∷ 0 ∷ 0 ∷ 1 ∷ 0 ∷ 0 ∷ 0 ∷ 0 ∷ []
 default-numbers model = refl
 
 -- lower and upper of each switching function
@@ -86,6 +89,6 @@ pub pair-numbers : (a b : ℕ) → map (λ (c : Threshold). c .mantissa) (listed
 pair-numbers a b = refl
 
 -- the filter of channel 2 set to 3
-pub second-filter : map (λ (m : Model). within m (withFilters (defaults m) (2 ∷ 3 ∷ []))) models ≡ false ∷ true ∷ []
-unfolding every storedKinds within
+pub second-filter : map (λ (m : Model). within m (withStored (defaults m) (set (defaults m .stored) 0 (record { first = 2; second = 3 })))) models ≡ false ∷ true ∷ []
+unfolding every cellsFit switchingEntry storedEntry within
 second-filter = refl

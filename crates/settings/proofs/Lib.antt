@@ -1,8 +1,9 @@
+pub mod Every
 pub mod Tabled
-pub mod Names
-pub mod Answerable
 pub mod Places
+pub mod Names
 pub mod Storing
 pub mod Sheets
+pub mod Answerable
 pub mod StoredLimits
 pub mod Instances

@@ -1,5 +1,5 @@
--- The table of names, and the search in it.
-use Prim.Native.Nat.{ℕ, suc, _+_, _*_, _-_, _≤_, _<_}
+-- The list of all that are known, and the search in it.
+use Prim.Native.Nat.{ℕ, suc, _+_, _-_, _≤_, _<_}
 use mathlib.Core.Path.{_≡_, refl, sym, ap, _∙_}
 use mathlib.Core.List.{List, [], _∷_, _++_, map}
 use mathlib.Core.Bool.{Bool, true, false, _&&_, and-true, and-false, and-eq-true-iff}
@@ -9,48 +9,49 @@ use lib.ListN.{length, getD, drop, drop-of-length-le, List·getD-append, List·g
 use lib.Seq.{drop-cons, getD-append-add}
 use lib.Dec.{eqb}
 use borrow.Author.Tests.{eqb-true}
-use Rattle.ground.specs.Members.{every}
-use Rattle.ground.proofs.Tables.{tabled}
-use Rattle.text.specs.Text.{ascii}
-use Rattle.settings.specs.Mnemonics.{sheet, sheetAt, others, known, knownAt, name, same, found, recognised}
+use Rattle.ground.specs.Members.{every, those}
+use Rattle.settings.specs.Table.{switchingEntry, storedEntry}
+use Rattle.settings.specs.Mnemonics.{held, sheet, sheetAt, others, setting, known, knownAt, name, same, found, recognised}
 use Rattle.settings.specs.declared.model.Model.{Model}
 use Rattle.settings.specs.declared.mnemonic.Setting.the-variants.{Uni}
 use Rattle.settings.specs.declared.mnemonic.Mnemonic.{Mnemonic}
-use Rattle.settings.specs.declared.mnemonic.Mnemonic.the-variants.{OfSetting}
 use Rattle.settings.specs.declared.mnemonic.Named.the-variants.{Known, Unknown}
+use Rattle.settings.proofs.Every.{every-model, tested}
 
 -- ---- places in the list of all that are known
 
-pub known-sheet : (model : Model) (i : ℕ) → i < 17 → OfSetting (sheetAt model i) ≡ knownAt model i
-unfolding known
-known-sheet model i h = sym (List·getD-append (map OfSetting (sheet model)) others (OfSetting Uni) i h ∙ List·getD-map OfSetting (sheet model) i Uni)
+-- the models that there are have all that is held on their sheet
+pub sheet-whole : (model : Model) → sheet model ≡ held
+unfolding sheet switchingEntry storedEntry
+sheet-whole = every-model (λ model. sheet model ≡ held) (refl, (refl, tt))
 
-pub known-others : (model : Model) (i : ℕ) → 17 ≤ i → getD others (i - 17) (OfSetting Uni) ≡ knownAt model i
+pub known-whole : (model : Model) → known model ≡ map setting held ++ others
 unfolding known
+known-whole model = ap (λ xs. map setting xs ++ others) (sheet-whole model)
+
+pub known-sheet : (model : Model) (i : ℕ) → i < 17 → setting (sheetAt model i) ≡ knownAt model i
+known-sheet model i h =
+    rw (known-whole model, sheet-whole model)
+    (sym (List·getD-append (map setting held) others (setting Uni) i h ∙ List·getD-map setting held i Uni))
+
+pub known-others : (model : Model) (i : ℕ) → 17 ≤ i → getD others (i - 17) (setting Uni) ≡ knownAt model i
 known-others model i h =
     let q : 17 + (i - 17) ≡ i = omega (arith, h) in
-    sym (getD-append-add (map OfSetting (sheet model)) others (i - 17) (OfSetting Uni)) ∙ ap (λ (k : ℕ). getD (map OfSetting (sheet model) ++ others) k (OfSetting Uni)) q
+    rw (known-whole model)
+    (sym (getD-append-add (map setting held) others (i - 17) (setting Uni)) ∙ ap (λ (k : ℕ). getD (map setting held ++ others) k (setting Uni)) q)
 
--- ---- three letters each
-
-abbrev letters : List ℕ
-letters = ascii "UNIFILCALDCDSP1SP2SP3SP4ERAEVAFMTLNGNADPREPROPUCDCSCF1CF2SPSPR1PR2PRXTIDAYTERRCOMSAV"
-
-spelling : (model : Model) (i : ℕ) → i < 28
-    → getD letters (i * 3) 0 ∷ getD letters (i * 3 + 1) 0 ∷ getD letters (i * 3 + 2) 0 ∷ [] ≡ name (knownAt model i)
-unfolding known
-spelling model i h =
-    tabled (λ i. getD letters (i * 3) 0 ∷ getD letters (i * 3 + 1) 0 ∷ getD letters (i * 3 + 2) 0 ∷ []) 28 (map name (known model)) refl i (name (OfSetting Uni)) h
-    ∙ List·getD-map name (known model) i (OfSetting Uni)
-
-pub spelt : (model : Model) (i : ℕ) → i < 28 → (a b c : ℕ)
-    → eqb (getD letters (i * 3) 0) a && (eqb (getD letters (i * 3 + 1) 0) b && eqb (getD letters (i * 3 + 2) 0) c) ≡ same (name (knownAt model i)) (a ∷ b ∷ c ∷ [])
-unfolding same
-spelt model i h a b c =
-    ap (λ (t : Bool). eqb (getD letters (i * 3) 0) a && (eqb (getD letters (i * 3 + 1) 0) b && t)) (sym (and-true (eqb (getD letters (i * 3 + 2) 0) c)))
-    ∙ ap (λ (n : List ℕ). same n (a ∷ b ∷ c ∷ [])) (spelling model i h)
+pub known-length : (model : Model) → length (known model) ≡ 28
+known-length model = rw (known-whole model)
 
 -- ---- the search
+
+pub three-same : (n : List ℕ) (a b c : ℕ) → length n ≡ 3 → eqb (getD n 0 0) a && (eqb (getD n 1 0) b && eqb (getD n 2 0) c) ≡ same n (a ∷ b ∷ c ∷ [])
+unfolding same
+three-same [] a b c h = absurd (omega arith)
+three-same (x ∷ []) a b c h = absurd (omega arith)
+three-same (x ∷ y ∷ []) a b c h = absurd (omega arith)
+three-same (x ∷ y ∷ z ∷ []) a b c h = ap (λ (t : Bool). eqb x a && (eqb y b && t)) (sym (and-true (eqb z c)))
+three-same (x ∷ y ∷ z ∷ w ∷ n) a b c h = absurd (omega arith)
 
 module _ (w : List ℕ) (ms : List Mnemonic) (i : ℕ) (d : Mnemonic) where
   pub found-hit : i < length ms → same (name (getD ms i d)) w ≡ true → found w (drop i ms) ≡ Known (getD ms i d)
@@ -65,10 +66,6 @@ module _ (w : List ℕ) (ms : List Mnemonic) (i : ℕ) (d : Mnemonic) where
   unfolding found
   found-end h = rw (drop-of-length-le ms h)
 
-pub known-length : (model : Model) → length (known model) ≡ 28
-unfolding known
-known-length model = refl
-
 -- ---- a word of another length names nothing
 
 unlike : (s w : List ℕ) → (length s ≡ length w → ⊥) → same s w ≡ false
@@ -79,8 +76,8 @@ unlike (a ∷ s) [] h = refl
 unlike (a ∷ s) (b ∷ w) h = rw (unlike s w (λ e. h (ap suc e))) (and-false (eqb a b))
 
 three : (model : Model) → every (λ m. eqb (length (name m)) 3) (known model) ≡ true
-unfolding known every
-three model = refl
+unfolding known sheet switchingEntry storedEntry every
+three = tested (λ model. every (λ m. eqb (length (name m)) 3) (known model)) refl
 
 nothing-found : (ms : List Mnemonic) (w : List ℕ) → every (λ m. eqb (length (name m)) 3) ms ≡ true → (length w ≡ 3 → ⊥) → found w ms ≡ Unknown
 unfolding found every

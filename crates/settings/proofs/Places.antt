@@ -1,45 +1,50 @@
--- A row within limits, place by place.
-use Prim.Native.Nat.{ℕ, _<_}
-use mathlib.Core.Path.{_≡_, ap}
-use mathlib.Core.List.{List}
-use mathlib.Core.Bool.{Bool, true, and-eq-true-iff}
+-- A row beside its default, place by place.
+use Prim.Native.Nat.{ℕ, zero, suc, _≤_, _<_}
+use mathlib.Core.Path.{_≡_, refl, sym, ap, _∙_}
+use mathlib.Core.List.{List, [], _∷_}
+use mathlib.Core.Bool.{Bool, true, cond, _&&_, and-true, and-false, and-eq-true-iff}
+use mathlib.Core.Logic.{⊎-elim}
 use native.Mathlib.Omega.{arith}
-use borrow.Author.Tests.{eqb-true}
-use lib.ListN.{length, getD}
-use lib.Dec.{ltb, eqb}
+use borrow.Author.Tests.{eqb-true, lt-ltb, le-leb, lt-leb, eq-eqb, ne-eqb}
+use lib.ListN.{getD}
+use lib.Dec.{leb, ltb, eqb}
 use lib.IntN.{ℤ, pos, negsuc}
+use lib.Signed.{leZ}
 use Rattle.ground.proofs.Ranges.{upto-each}
-use Rattle.ground.proofs.Cases.{in-range, never}
-use Rattle.numbers.specs.Numbers.{between}
+use Rattle.ground.proofs.Cases.{below, never, eqb-same}
 use Rattle.numbers.specs.declared.threshold.Threshold.{Threshold}
-use Rattle.settings.specs.Rows.{plain, listed}
-use Rattle.settings.specs.Limits.{inside, sameCell, placeWithin, rowFits}
-use Rattle.settings.specs.declared.kinds.Limits.{Limits}
-use Rattle.settings.specs.declared.kinds.Kind.{Kind}
-use Rattle.settings.specs.declared.kinds.Kind.the-variants.{OfThreshold}
+use Rattle.settings.specs.Cells.{plain, listed}
+use Rattle.settings.specs.Limits.{sameNumber, sameCell, fits, cellsFit, rowFits}
+use Rattle.settings.specs.declared.table.Kind.{Kind}
+use Rattle.settings.specs.declared.table.Kind.the-variants.{OfWhole, OfFactor, OfThreshold}
+use Rattle.settings.specs.declared.table.Fields.{Fields}
 use Rattle.settings.specs.declared.rows.Row.{Row}
+use Rattle.settings.proofs.Tabled.{numeric}
 
 -- ---- cells
 
--- an exponent from e to e
-exponent-is : (e x : ℤ) → between e e x ≡ true → x ≡ e
-exponent-is (pos a) (pos b) h = let l = in-range a a b h in ap pos (omega arith)
-exponent-is (pos a) (negsuc b) h = never (cc)
-exponent-is (negsuc a) (pos b) h = never (cc)
-exponent-is (negsuc a) (negsuc b) h = let l = in-range b b a h in ap negsuc (omega arith)
+pub same-number : (e x : ℤ) → sameNumber e x ≡ true → e ≡ x
+same-number (pos a) (pos b) h = ap pos (eqb-true a b h)
+same-number (pos a) (negsuc b) h = never (cc)
+same-number (negsuc a) (pos b) h = never (cc)
+same-number (negsuc a) (negsuc b) h = ap negsuc (eqb-true a b h)
 
 pub same-cell : (c d : Threshold) → sameCell c d ≡ true → c ≡ d
 same-cell c d h =
-    let b = and-eq-true-iff (eqb (c .mantissa) (d .mantissa)) (between (d .exponent) (d .exponent) (c .exponent)) .0 h in
+    let b = and-eq-true-iff (eqb (c .mantissa) (d .mantissa)) (sameNumber (c .exponent) (d .exponent)) .0 h in
     let m = eqb-true (c .mantissa) (d .mantissa) (b .0) in
-    let e = exponent-is (d .exponent) (c .exponent) (b .1) in
+    let e = same-number (c .exponent) (d .exponent) (b .1) in
     λ i. record { mantissa = m i; exponent = e i }
 
 -- a cell that fits a whole number or a factor is a plain number
-pub fits-plain : (l : Limits) (c : Threshold) → inside l c ≡ true → c ≡ plain (c .mantissa)
-fits-plain l c h =
-    let e = exponent-is (pos 0) (c .exponent) (and-eq-true-iff (between (pos 0) (pos 0) (c .exponent)) _ .0 h .0) in
+pub number-plain : (k : Kind) (c : Threshold) → numeric k ≡ true → fits k c ≡ true → c ≡ plain (c .mantissa)
+number-plain (OfWhole l) c n h =
+    let e = same-number (c .exponent) (pos 0) (and-eq-true-iff (sameNumber (c .exponent) (pos 0)) _ .0 h .0) in
     λ i. record { mantissa = c .mantissa; exponent = e i }
+number-plain (OfFactor l) c n h =
+    let e = same-number (c .exponent) (pos 0) (and-eq-true-iff (sameNumber (c .exponent) (pos 0)) _ .0 h .0) in
+    λ i. record { mantissa = c .mantissa; exponent = e i }
+number-plain OfThreshold c n h = never (cc)
 
 -- ---- places
 
@@ -53,13 +58,46 @@ rows-same r q e =
     let c = e 2 (omega arith) in
     λ i. record { first = a i; second = b i; third = c i }
 
--- at place i the row fits its kind, or is as d where there is none
-abbrev pub placed : List Kind → Row → Row → ℕ → Bool
-placed ks r d i = placeWithin (ltb i (length ks)) (getD ks i OfThreshold) (cell r i) (cell d i)
+-- the kind of a field, where there is one
+abbrev pub kindAt : Fields → ℕ → Kind
+kindAt f i = getD (f .first ∷ f .others ∷ f .others ∷ []) i OfThreshold
 
-module _ (ks : List Kind) (r d : Row) where
-  pub row-places : rowFits ks r d ≡ true → (i : ℕ) → i < 3 → placed ks r d i ≡ true
-  row-places h i l = upto-each 2 (placed ks r d) h i (omega arith)
+-- at place i the row fits its field, or is as d where there is none
+abbrev pub placed : Fields → Row → Row → ℕ → Bool
+placed f r d i = cond (ltb i (f .count)) (fits (kindAt f i) (cell r i)) (sameCell (cell r i) (cell d i))
 
-  pub places-row : ((i : ℕ) → i < 3 → placed ks r d i ≡ true) → rowFits ks r d ≡ true
-  places-row h = rw (h 0 (omega arith), h 1 (omega arith)) (h 2 (omega arith))
+-- the recursion over kinds and cells is the three places
+pub row-placed : (f : Fields) (r d : Row) → placed f r d 0 && (placed f r d 1 && placed f r d 2) ≡ rowFits f r d
+unfolding cellsFit
+row-placed f r d = by (f .count)
+  where
+    by : (n : ℕ) → cond (ltb 0 n) (fits (f .first) (r .first)) (sameCell (r .first) (d .first)) && (cond (ltb 1 n) (fits (f .others) (r .second)) (sameCell (r .second) (d .second)) && cond (ltb 2 n) (fits (f .others) (r .third)) (sameCell (r .third) (d .third)))
+        ≡ rowFits (record { count = n; first = f .first; others = f .others }) r d
+    by zero = rw (and-true (sameCell (r .third) (d .third)))
+    by (suc zero) = rw (and-true (sameCell (r .third) (d .third)))
+    by (suc (suc zero)) = rw (and-true (sameCell (r .third) (d .third)))
+    by (suc (suc (suc n))) =
+        let k = suc (suc (suc n)) in
+        rw (lt-ltb 0 k (omega arith), lt-ltb 1 k (omega arith), lt-ltb 2 k (omega arith), and-true (fits (f .others) (r .third)))
+
+module _ (f : Fields) (r d : Row) where
+  pub row-places : rowFits f r d ≡ true → (i : ℕ) → i < 3 → placed f r d i ≡ true
+  row-places h i l = upto-each 2 (placed f r d) (row-placed f r d ∙ h) i (omega arith)
+
+  pub places-row : ((i : ℕ) → i < 3 → placed f r d i ≡ true) → rowFits f r d ≡ true
+  places-row h = sym (row-placed f r d) ∙ rw (h 0 (omega arith), h 1 (omega arith)) (h 2 (omega arith))
+
+-- ---- how the code tests two numbers
+
+both-ways : (a b : ℕ) → leb a b && leb b a ≡ eqb a b
+both-ways a b =
+    ⊎-elim (λ (l : a < b). rw (lt-leb b a l, and-false (leb a b)) (sym (ne-eqb a b (λ e. omega arith))))
+    (λ (g : b ≤ a). ⊎-elim (λ (l : b < a). rw (lt-leb a b l) (sym (ne-eqb a b (λ e. omega arith))))
+    (λ (h : a ≤ b). rw (le-leb a b h, le-leb b a g) (sym (eq-eqb a b (omega arith)))) (below b a)) (below a b)
+
+-- no more and no less
+pub same-order : (e x : ℤ) → leZ e x && leZ x e ≡ sameNumber e x
+same-order (pos a) (pos b) = both-ways a b
+same-order (pos a) (negsuc b) = refl
+same-order (negsuc a) (pos b) = refl
+same-order (negsuc a) (negsuc b) = both-ways b a ∙ eqb-same b a a b sym sym

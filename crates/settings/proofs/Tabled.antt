@@ -1,59 +1,96 @@
--- The table of the stored settings' fields, entry by entry; the sheet, line by line.
-use Prim.Native.Nat.{ℕ, zero, suc, _+_, _-_, _≤_, _<_}
-use mathlib.Core.Path.{_≡_, refl, sym, ap, _∙_}
-use mathlib.Core.List.{List, [], _∷_, _++_}
-use mathlib.Core.Bool.{Bool, _&&_}
+-- The table: how many fields a row has, and which rows are of numbers.
+use Prim.Native.Nat.{ℕ, _≤_, _<_}
+use mathlib.Core.Path.{_≡_, refl}
+use mathlib.Core.List.{[], _∷_}
+use mathlib.Core.Bool.{Bool, true, false, _&&_, and-eq-true-iff}
 use native.Mathlib.Omega.{arith}
-use lib.ListN.{getD, take, drop, drop-of-length-le}
-use lib.Seq.{drop-cons}
+use borrow.Author.Tests.{leb-true, lt-ltb, le-ltb}
+use lib.ListN.{length, List·getD-eq-default, length-take}
+use lib.Dec.{leb, ltb}
 use Rattle.ground.specs.Members.{every}
-use Rattle.ground.proofs.Tables.{tabled}
-use Rattle.ground.proofs.Members.{every-append}
-use Rattle.settings.specs.Mnemonics.{sheet}
-use Rattle.settings.specs.Kinds.{whole, storedTable, storedKinds}
-use Rattle.settings.specs.Limits.{rowWithin, within}
+use Rattle.ground.proofs.Cases.{cond-cases}
+use Rattle.ground.proofs.Members.{each-at, every-each}
+use Rattle.settings.specs.Table.{kindsOf, TableRow, nothing, switchings, storedTable, switchingEntry, storedEntry, settingEntry, entry}
 use Rattle.settings.specs.declared.model.Model.{Model}
-use Rattle.settings.specs.declared.mnemonic.Setting.the-variants.{Uni, Stored}
-use Rattle.settings.specs.declared.Settings.{Settings}
-use Rattle.settings.specs.declared.kinds.Kind.{Kind}
-use Rattle.settings.specs.declared.kinds.Kind.the-variants.{OfThreshold}
+use Rattle.settings.specs.declared.mnemonic.Setting.{Setting}
+use Rattle.settings.specs.declared.mnemonic.Setting.the-variants.{Uni, Cal, Sp, Stored}
+use Rattle.settings.specs.declared.mnemonic.Query.the-variants.{Sps, Pr, Prx, Tid, Ayt, Err}
+use Rattle.settings.specs.declared.mnemonic.Replying.the-variants.{OfSetting, Cf, OfQuery}
+use Rattle.settings.specs.declared.mnemonic.Mnemonic.{Mnemonic}
+use Rattle.settings.specs.declared.mnemonic.Mnemonic.the-variants.{OfReplying, Com, Sav}
+use Rattle.settings.specs.declared.table.Kind.{Kind}
+use Rattle.settings.specs.declared.table.Kind.the-variants.{OfWhole, OfFactor, OfThreshold}
+use Rattle.settings.specs.declared.table.Fields.{Fields}
+use Rattle.settings.proofs.Every.{tested, channels-few}
 
--- the limits behind ERA, as two rows of numbers
-abbrev leasts : List ℕ
-leasts = 0 ∷ 0 ∷ 0 ∷ 1 ∷ 0 ∷ 0 ∷ 0 ∷ 0 ∷ []
+pub stored-past : (k : ℕ) → 11 ≤ k → storedEntry k ≡ nothing
+unfolding storedEntry
+stored-past k h = List·getD-eq-default storedTable nothing h
 
-abbrev mosts : List ℕ
-mosts = 1 ∷ 1 ∷ 2 ∷ 24 ∷ 1 ∷ 2 ∷ 1 ∷ 6 ∷ []
+pub switching-there : (k : ℕ) → k < 4 → switchingEntry k ≡ switchings k
+unfolding switchingEntry
+switching-there k h = rw (lt-ltb k 4 h)
 
-pub stored-kind : (model : Model) (k : ℕ) (d : Kind) → k < 9 → storedKinds model k ≡ getD (storedTable model) k d ∷ []
-unfolding storedKinds
-stored-kind model k d h = ap (take 1) (drop-cons (storedTable model) k d h)
+pub switching-past : (k : ℕ) → 4 ≤ k → switchingEntry k ≡ nothing
+unfolding switchingEntry
+switching-past k h = rw (le-ltb k 4 h)
 
--- every entry but the first is a plain range
-pub stored-entry : (model : Model) (k : ℕ) → k < 9 → (k ≡ 0 → ⊥) → storedKinds model k ≡ whole (getD leasts (k - 1) 0) (getD mosts (k - 1) 0) ∷ []
-stored-entry model zero h n = absurd (n refl)
-stored-entry model (suc j) h n =
-    let q : j ≡ suc j - 1 = omega arith in
-    stored-kind model (suc j) OfThreshold h
-    ∙ ap (λ (k : Kind). k ∷ []) (sym (tabled (λ j. whole (getD leasts j 0) (getD mosts j 0)) 8 (drop 1 (storedTable model)) refl j OfThreshold (omega arith)))
-    ∙ ap (λ (i : ℕ). whole (getD leasts i 0) (getD mosts i 0) ∷ []) q
+-- ---- rows of numbers
 
-pub stored-past : (model : Model) (k : ℕ) → 9 ≤ k → storedKinds model k ≡ []
-unfolding storedKinds
-stored-past model k h = ap (take 1) (drop-of-length-le (storedTable model) h)
+-- a whole number or a factor
+abbrev pub numeric : Kind → Bool
+numeric (OfWhole l) = true
+numeric (OfFactor l) = true
+numeric OfThreshold = false
 
--- the sheet in its three parts
-pub sheet-parts : (model : Model) (s : Settings)
-    → every (rowWithin model s) (take 4 (sheet model)) && (every (rowWithin model s) (take 4 (drop 4 (sheet model))) && every (rowWithin model s) (drop 8 (sheet model)))
-    ≡ within model s
-unfolding within
-sheet-parts model s =
-    let p = rowWithin model s in
-    let a = take 4 (sheet model) in
-    let b = take 4 (drop 4 (sheet model)) in
-    let c = drop 8 (sheet model) in
-    ap (λ (t : Bool). every p a && t) (every-append p b c) ∙ every-append p a (b ++ c)
+-- up to two fields of numbers
+pub record Numbers (f : Fields) : Type 0 where
+  pub few : f .count ≤ 2
+  pub first : numeric (f .first) ≡ true
+  pub others : numeric (f .others) ≡ true
 
--- the last of them
-pub stored-line : (model : Model) (k : ℕ) → k < 9 → Stored k ≡ getD (drop 8 (sheet model)) k Uni
-stored-line model k h = tabled Stored 9 (drop 8 (sheet model)) refl k Uni h
+abbrev ofNumbers : Fields → Bool
+ofNumbers f = leb (f .count) 2 && (numeric (f .first) && numeric (f .others))
+
+numbers-by : (f : Fields) → ofNumbers f ≡ true → Numbers f
+numbers-by f h =
+    let a = and-eq-true-iff (leb (f .count) 2) _ .0 h in
+    let b = and-eq-true-iff (numeric (f .first)) (numeric (f .others)) .0 (a .1) in
+    record { few = leb-true (f .count) 2 (a .0); first = b .0; others = b .1 }
+
+pub uni-numbers : (model : Model) → Numbers (settingEntry Uni .fields model)
+uni-numbers model = numbers-by _ refl
+
+pub cal-numbers : (model : Model) → Numbers (settingEntry Cal .fields model)
+cal-numbers model = record { few = channels-few model; first = refl; others = refl }
+
+pub stored-numbers : (model : Model) (k : ℕ) → Numbers (settingEntry (Stored k) .fields model)
+unfolding storedEntry every
+stored-numbers model k =
+    numbers-by _ (each-at (λ (e : TableRow). ofNumbers (e .fields model) ≡ true) storedTable nothing refl
+    (every-each (λ (e : TableRow). ofNumbers (e .fields model)) storedTable (tested (λ m. every (λ (e : TableRow). ofNumbers (e .fields m)) storedTable) refl model)) k)
+
+-- ---- up to three fields
+
+setting-few : (model : Model) (x : Setting) → settingEntry x .fields model .count ≤ 3
+unfolding switchingEntry
+setting-few model Uni = omega arith
+setting-few model Cal = omega (arith, channels-few model)
+setting-few model (Sp k) = cond-cases (λ (e : TableRow). e .fields model .count ≤ 3) (ltb k 4) (switchings k) nothing (λ _. omega arith) (λ _. omega arith)
+setting-few model (Stored k) = omega (arith, stored-numbers model k .few)
+
+pub few : (model : Model) (m : Mnemonic) → entry m .fields model .count ≤ 3
+few model (OfReplying (OfSetting x)) = setting-few model x
+few model (OfReplying (Cf k)) = omega arith
+few model (OfReplying (OfQuery Sps)) = omega arith
+few model (OfReplying (OfQuery (Pr k))) = omega arith
+few model (OfReplying (OfQuery Prx)) = omega arith
+few model (OfReplying (OfQuery Tid)) = omega arith
+few model (OfReplying (OfQuery Ayt)) = omega arith
+few model (OfReplying (OfQuery Err)) = omega arith
+few model Com = omega arith
+few model Sav = omega arith
+
+-- so there are as many kinds as the row counts
+pub count-kinds : (f : Fields) → f .count ≤ 3 → length (kindsOf f) ≡ f .count
+count-kinds f h = omega (arith, length-take (f .count) (f .first ∷ f .others ∷ f .others ∷ []))

@@ -1,5 +1,6 @@
 pub mod Models
+pub mod Cells
+pub mod Table
 pub mod Mnemonics
-pub mod Kinds
 pub mod Rows
 pub mod Limits

@@ -1,16 +1,13 @@
--- The models and what they start with (01, "What the box answers to", "Settings" and "Readings, switching, streaming").
+-- The models and what they start with (01, "What the box answers to" and "Readings, switching, streaming").
 use Prim.Native.Nat.{ℕ, _+_}
-use mathlib.Core.List.{List, [], _∷_}
+use mathlib.Core.List.{List}
 use mathlib.Core.Bool.{Bool, Bool·beq, cond, _||_}
 use lib.Dec.{eqb, leb}
-use lib.IntN.{negsuc}
 use Rattle.text.specs.Text.{ascii}
 use Rattle.settings.specs.declared.model.Model.{Model}
 use Rattle.settings.specs.declared.model.Model.the-variants.{Tpg361, Tpg362}
 use Rattle.settings.specs.declared.model.Numbered.{Numbered}
 use Rattle.settings.specs.declared.model.Numbered.the-variants.{One, NoModel}
-use Rattle.settings.specs.declared.Switching.{Switching}
-use Rattle.settings.specs.declared.Settings.{Settings}
 
 -- "model not 361 or 362": a model by its number
 abbrev pub modelOf : ℕ → Numbered
@@ -41,22 +38,3 @@ follows model assignment channel = eqb assignment (channel + 2)
 -- "switch status matching assignments 0 and 1": those never leave what they start with
 abbrev pub agrees : Model → ℕ → Bool → Bool
 agrees model assignment on = leb 2 assignment || Bool·beq on (startsOn model assignment)
-
--- "0, 1.0000E-09, 9.0000E-07 (ours)"
-abbrev pub unassigned : Switching
-unassigned = record {
-  assignment = 0;
-  lower = record { mantissa = 10000; exponent = negsuc 8 };
-  upper = record { mantissa = 90000; exponent = negsuc 6 };
-}
-
--- the column "Default"; both models have the same
-abbrev pub defaults : Model → Settings
-defaults model = record {
-  unit = 4;
-  filters = 2 ∷ 2 ∷ [];
-  factors = 1000 ∷ 1000 ∷ [];
-  resolutions = 0 ∷ 0 ∷ [];
-  switching = unassigned ∷ unassigned ∷ unassigned ∷ unassigned ∷ [];
-  stored = 0 ∷ 0 ∷ 0 ∷ 0 ∷ 1 ∷ 0 ∷ 0 ∷ 0 ∷ 0 ∷ [];
-}

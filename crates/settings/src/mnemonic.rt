@@ -1,23 +1,17 @@
 // The mnemonics: families that carry a number where there are several of a kind.
 ghost use mathlib.Core.Path.{_≡_};
 ghost use mathlib.Core.List.{[], _∷_};
-ghost use mathlib.Core.Bool.{_&&_};
-ghost use Prim.Native.Nat.{_<_, _+_, _*_};
-ghost use lib.Dec.{eqb};
-ghost use lib.ListN.{getD};
-ghost use Rattle.settings.specs.Mnemonics.{sheetAt, knownAt, name, recognised, channelOf, isKnown, answers, isErr};
-ghost use Rattle.settings.specs.declared.mnemonic.Mnemonic.the-variants.{OfSetting};
+ghost use Prim.Native.Nat.{_<_};
+ghost use Rattle.settings.specs.Mnemonics.{sheetAt, knownAt, same, recognised, channelOf, isThere, answers, isErr};
 use crate::model::Model;
 
 // Those of the sheet, each of which holds settings.
 pub enum Setting {
     Uni,
-    Fil,
     Cal,
-    Dcd,
     // SP1 to SP4 from 0 on
     Sp(u8),
-    // ERA EVA FMT LNG NAD PRE PRO PUC DCS from 0 on: only stored and answered
+    // FIL DCD ERA EVA FMT LNG NAD PRE PRO PUC DCS from 0 on: only stored and answered
     Stored(u8),
 }
 
@@ -31,26 +25,29 @@ pub enum Query {
     Err,
 }
 
-pub enum Mnemonic {
+// Those that have a reply.
+pub enum Replying {
     OfSetting(Setting),
     // CF1 and CF2 from 0 on
     Cf(u8),
     OfQuery(Query),
+}
+
+pub enum Mnemonic {
+    OfReplying(Replying),
     Com,
     Sav,
 }
 
-const SHEET: [Setting; 17] = [
+pub(crate) const HELD: [Setting; 17] = [
     Setting::Uni,
-    Setting::Fil,
+    Setting::Stored(0),
     Setting::Cal,
-    Setting::Dcd,
+    Setting::Stored(1),
     Setting::Sp(0),
     Setting::Sp(1),
     Setting::Sp(2),
     Setting::Sp(3),
-    Setting::Stored(0),
-    Setting::Stored(1),
     Setting::Stored(2),
     Setting::Stored(3),
     Setting::Stored(4),
@@ -58,25 +55,23 @@ const SHEET: [Setting; 17] = [
     Setting::Stored(6),
     Setting::Stored(7),
     Setting::Stored(8),
+    Setting::Stored(9),
+    Setting::Stored(10),
 ];
 
 const OTHERS: [Mnemonic; 11] = [
-    Mnemonic::Cf(0),
-    Mnemonic::Cf(1),
-    Mnemonic::OfQuery(Query::Sps),
-    Mnemonic::OfQuery(Query::Pr(0)),
-    Mnemonic::OfQuery(Query::Pr(1)),
-    Mnemonic::OfQuery(Query::Prx),
-    Mnemonic::OfQuery(Query::Tid),
-    Mnemonic::OfQuery(Query::Ayt),
-    Mnemonic::OfQuery(Query::Err),
+    Mnemonic::OfReplying(Replying::Cf(0)),
+    Mnemonic::OfReplying(Replying::Cf(1)),
+    Mnemonic::OfReplying(Replying::OfQuery(Query::Sps)),
+    Mnemonic::OfReplying(Replying::OfQuery(Query::Pr(0))),
+    Mnemonic::OfReplying(Replying::OfQuery(Query::Pr(1))),
+    Mnemonic::OfReplying(Replying::OfQuery(Query::Prx)),
+    Mnemonic::OfReplying(Replying::OfQuery(Query::Tid)),
+    Mnemonic::OfReplying(Replying::OfQuery(Query::Ayt)),
+    Mnemonic::OfReplying(Replying::OfQuery(Query::Err)),
     Mnemonic::Com,
     Mnemonic::Sav,
 ];
-
-// The names of the sheet and of the others, three letters each.
-const NAMES: [u8; 84] =
-    *b"UNIFILCALDCDSP1SP2SP3SP4ERAEVAFMTLNGNADPREPROPUCDCSCF1CF2SPSPR1PR2PRXTIDAYTERRCOMSAV";
 
 // What three letters name.
 pub enum Named {
@@ -84,14 +79,13 @@ pub enum Named {
     Unknown,
 }
 
-// Whether three letters are the name i of a table of names.
-fn spells(names: &[u8; 84], i: usize, a: u8, b: u8, c: u8) -> bool
-    requires { ⌜ i < 28 ⌝ }
-    ensures { λ r. ⌜ r ≡ (eqb (getD (now (names .entry)) (i * 3) 0) a && (eqb (getD (now (names .entry)) (i * 3 + 1) 0) b && eqb (getD (now (names .entry)) (i * 3 + 2) 0) c)) ⌝ }
+// Whether three letters are a name.
+fn spells(name: [u8; 3], a: u8, b: u8, c: u8) -> bool
+    ensures { λ r. ⌜ r ≡ same name (a ∷ b ∷ c ∷ []) ⌝ }
 {
-    let x = names[i * 3] == a;
-    let y = names[i * 3 + 1] == b;
-    let z = names[i * 3 + 2] == c;
+    let x = name[0] == a;
+    let y = name[1] == b;
+    let z = name[2] == c;
     x & (y & z)
 }
 
@@ -104,7 +98,7 @@ impl Model {
         ensures { λ r. ⌜ r ≡ sheetAt self i ⌝ }
     {
         if i < Model::SHEET_LENGTH {
-            return SHEET[i];
+            return HELD[i];
         }
         Setting::Uni
     }
@@ -114,7 +108,7 @@ impl Model {
         ensures { λ r. ⌜ r ≡ knownAt self i ⌝ }
     {
         if i < Model::SHEET_LENGTH {
-            return Mnemonic::OfSetting(self.sheet_at(i));
+            return Mnemonic::OfReplying(Replying::OfSetting(self.sheet_at(i)));
         }
         OTHERS[i - Model::SHEET_LENGTH]
     }
@@ -123,55 +117,55 @@ impl Model {
     pub fn named(self, a: u8, b: u8, c: u8) -> Named
         ensures { λ r. ⌜ r ≡ recognised self (a ∷ b ∷ c ∷ []) ⌝ }
     {
-        // the table is copied where it is named: once, and not at each name
-        let names = NAMES;
         let mut i: usize = 0;
         while i < Model::KNOWN {
-            if spells(&names, i, a, b, c) {
-                return Named::Known(self.known_at(i));
+            let m = self.known_at(i);
+            let e = self.entry(m);
+            let name = e.name;
+            if spells(name, a, b, c) {
+                return Named::Known(m);
             }
             i += 1;
         }
         Named::Unknown
     }
 
-    // Whether a setting is one that has a name.
-    fn has(self, x: Setting) -> bool
-        ensures { λ r. ⌜ r ≡ isKnown (recognised self (name (OfSetting x))) ⌝ }
+    // Whether the model has the channel that a mnemonic is about.
+    pub fn has(self, m: Mnemonic) -> bool
+        ensures { λ r. ⌜ r ≡ isThere self m ⌝ }
     {
-        match x {
-            Setting::Uni => true,
-            Setting::Fil => true,
-            Setting::Cal => true,
-            Setting::Dcd => true,
-            Setting::Sp(k) => k < 4,
-            Setting::Stored(k) => k < 9,
+        match m {
+            Mnemonic::OfReplying(a) => (a.channel() as usize) < self.channels(),
+            Mnemonic::Com => true,
+            Mnemonic::Sav => true,
         }
     }
 
     // Whether a box of the model can answer it when it is selected.
-    pub fn answers(self, m: Mnemonic) -> bool
-        ensures { λ r. ⌜ r ≡ answers self m ⌝ }
+    pub fn answers(self, a: Replying) -> bool
+        ensures { λ r. ⌜ r ≡ answers self a ⌝ }
     {
-        match m {
-            Mnemonic::OfSetting(x) => self.has(x),
-            Mnemonic::Cf(k) => (k as usize) < self.channels(),
-            Mnemonic::OfQuery(_) => (m.channel() as usize) < self.channels(),
-            Mnemonic::Com => false,
-            Mnemonic::Sav => false,
+        match a {
+            Replying::OfSetting(x) => {
+                let e = self.setting_entry(x);
+                let f = e.fields;
+                0 < f.count
+            }
+            Replying::Cf(_) => self.has(Mnemonic::OfReplying(a)),
+            Replying::OfQuery(_) => self.has(Mnemonic::OfReplying(a)),
         }
     }
 }
 
-impl Mnemonic {
+impl Replying {
     // Whether its reply is the error word.
     pub fn is_err(self) -> bool
         ensures { λ r. ⌜ r ≡ isErr self ⌝ }
     {
         match self {
-            Mnemonic::OfSetting(_) => false,
-            Mnemonic::Cf(_) => false,
-            Mnemonic::OfQuery(q) => match q {
+            Replying::OfSetting(_) => false,
+            Replying::Cf(_) => false,
+            Replying::OfQuery(q) => match q {
                 Query::Sps => false,
                 Query::Pr(_) => false,
                 Query::Prx => false,
@@ -179,19 +173,17 @@ impl Mnemonic {
                 Query::Ayt => false,
                 Query::Err => true,
             },
-            Mnemonic::Com => false,
-            Mnemonic::Sav => false,
         }
     }
 
-    // The channel that a mnemonic is about, from 0 on; 0 where it is about none.
-    pub fn channel(self) -> u8
+    // The channel that it is about, from 0 on; 0 where it is about none.
+    fn channel(self) -> u8
         ensures { λ r. ⌜ r ≡ channelOf self ⌝ }
     {
         match self {
-            Mnemonic::OfSetting(_) => 0,
-            Mnemonic::Cf(k) => k,
-            Mnemonic::OfQuery(q) => match q {
+            Replying::OfSetting(_) => 0,
+            Replying::Cf(k) => k,
+            Replying::OfQuery(q) => match q {
                 Query::Pr(k) => k,
                 Query::Sps => 0,
                 Query::Prx => 0,
@@ -199,8 +191,6 @@ impl Mnemonic {
                 Query::Ayt => 0,
                 Query::Err => 0,
             },
-            Mnemonic::Com => 0,
-            Mnemonic::Sav => 0,
         }
     }
 }

@@ -1,10 +1,7 @@
 // The models, and the rules that belong to one.
 ghost use mathlib.Core.Path.{_≡_};
 ghost use Rattle.text.specs.Page.{page, puts};
-ghost use Rattle.settings.specs.Models.{modelOf, channels, names, powerOnMode, startsOn, follows, agrees, defaults};
-use crate::Settings;
-use crate::Switching;
-use numbers::threshold::Threshold;
+ghost use Rattle.settings.specs.Models.{modelOf, channels, names, powerOnMode, startsOn, follows, agrees};
 use text::append;
 
 pub enum Model {
@@ -89,32 +86,5 @@ impl Model {
         ensures { λ r. ⌜ r ≡ agrees self assignment on ⌝ }
     {
         (Model::FIRST_CHANNEL <= assignment) | (on == self.starts_on(assignment))
-    }
-
-    // What a fresh box is set to.
-    pub fn defaults(self) -> Settings
-        ensures { λ r. ⌜ r ≡ defaults self ⌝ }
-    {
-        let lower = Threshold {
-            mantissa: 10000,
-            exponent: -9,
-        };
-        let upper = Threshold {
-            mantissa: 90000,
-            exponent: -7,
-        };
-        let w = Switching {
-            assignment: 0,
-            lower,
-            upper,
-        };
-        Settings {
-            unit: 4,
-            filters: [2, 2],
-            factors: [1000, 1000],
-            resolutions: [0, 0],
-            switching: [w, w, w, w],
-            stored: [0, 0, 0, 0, 1, 0, 0, 0, 0],
-        }
     }
 }

@@ -1,11 +1,14 @@
 // The settings as rows of three cells, one row for each line of the sheet; storing what a line writes.
 ghost use mathlib.Core.Path.{_≡_};
 ghost use mathlib.Core.Bool.{cond};
-ghost use lib.ListN.{getD};
-ghost use Rattle.settings.specs.Rows.{plain, pairRow, switchRow, row, withRow, mixed, stored};
+ghost use lib.ListN.{getD, set};
+ghost use Rattle.settings.specs.Cells.{plain, pairRow, cellsOf, firstNumber, mixed};
+ghost use Rattle.settings.specs.Rows.{noSwitching, noPair, rowOfPair, row, withFactors, withRow, stored};
+use crate::Pair;
 use crate::Settings;
 use crate::Switching;
 use crate::mnemonic::Mnemonic;
+use crate::mnemonic::Replying;
 use crate::mnemonic::Setting;
 use crate::model::Model;
 use numbers::threshold::Threshold;
@@ -39,7 +42,7 @@ pub fn pair_row(a: u32, b: u32) -> Row
 }
 
 fn switch_row(switching: [Switching; 4], k: u8) -> Row
-    ensures { λ r. ⌜ r ≡ switchRow switching k ⌝ }
+    ensures { λ r. ⌜ r ≡ cellsOf (getD switching k noSwitching) ⌝ }
 {
     let i = k as usize;
     if i < 4 {
@@ -55,11 +58,15 @@ fn switch_row(switching: [Switching; 4], k: u8) -> Row
     pair_row(0, 0)
 }
 
-fn stored_at(stored: [u32; 9], k: u8) -> u32
-    ensures { λ r. ⌜ r ≡ getD stored k 0 ⌝ }
+fn stored_row(stored: [Pair; 11], k: u8) -> Row
+    ensures { λ r. ⌜ r ≡ rowOfPair (getD stored k noPair) ⌝ }
 {
     let i = k as usize;
-    if i < 9 { stored[i] } else { 0 }
+    if i < 11 {
+        let p = stored[i];
+        return pair_row(p.first, p.second);
+    }
+    pair_row(0, 0)
 }
 
 fn either(on: bool, a: Threshold, b: Threshold) -> Threshold
@@ -86,16 +93,14 @@ impl Settings {
     {
         match x {
             Setting::Uni => pair_row(self.unit, 0),
-            Setting::Fil => pair_row(self.filters[0], self.filters[1]),
             Setting::Cal => pair_row(self.factors[0], self.factors[1]),
-            Setting::Dcd => pair_row(self.resolutions[0], self.resolutions[1]),
             Setting::Sp(k) => {
                 let w = self.switching;
                 switch_row(w, k)
             }
             Setting::Stored(k) => {
                 let w = self.stored;
-                pair_row(stored_at(w, k), 0)
+                stored_row(w, k)
             }
         }
     }
@@ -112,14 +117,8 @@ impl Settings {
             Setting::Uni => {
                 s.unit = a.mantissa;
             }
-            Setting::Fil => {
-                s.filters = [a.mantissa, b.mantissa];
-            }
             Setting::Cal => {
                 s.factors = [a.mantissa, b.mantissa];
-            }
-            Setting::Dcd => {
-                s.resolutions = [a.mantissa, b.mantissa];
             }
             Setting::Sp(k) => {
                 let i = k as usize;
@@ -133,10 +132,26 @@ impl Settings {
             }
             Setting::Stored(k) => {
                 let i = k as usize;
-                if i < 9 {
-                    s.stored[i] = a.mantissa;
+                if i < 11 {
+                    s.stored[i] = Pair {
+                        first: a.mantissa,
+                        second: b.mantissa,
+                    };
                 }
             }
+        }
+        s
+    }
+
+    // The settings with another factor for a channel, from 0 on.
+    fn with_factor(self, k: u8, r: Row) -> Settings
+        ensures { λ s. ⌜ s ≡ withFactors self (set (self .factors) k (firstNumber r)) ⌝ }
+    {
+        let mut s = self;
+        let a = r.first;
+        let i = k as usize;
+        if i < 2 {
+            s.factors[i] = a.mantissa;
         }
         s
     }
@@ -145,23 +160,18 @@ impl Settings {
     pub fn store(self, model: Model, m: Mnemonic, r: Row) -> Settings
         ensures { λ s. ⌜ s ≡ stored model self m r ⌝ }
     {
-        let mut s = self;
         match m {
-            Mnemonic::OfSetting(x) => {
-                let ks = model.shape(m);
-                s = s.with_row(x, mixed(ks.count, r, s.row(x)));
-            }
-            Mnemonic::Cf(k) => {
-                let a = r.first;
-                let i = k as usize;
-                if i < 2 {
-                    s.factors[i] = a.mantissa;
+            Mnemonic::OfReplying(a) => match a {
+                Replying::OfSetting(x) => {
+                    let e = model.setting_entry(x);
+                    let f = e.fields;
+                    self.with_row(x, mixed(f.count, r, self.row(x)))
                 }
-            }
-            Mnemonic::OfQuery(_) => {}
-            Mnemonic::Com => {}
-            Mnemonic::Sav => {}
+                Replying::Cf(k) => self.with_factor(k, r),
+                Replying::OfQuery(_) => self,
+            },
+            Mnemonic::Com => self,
+            Mnemonic::Sav => self,
         }
-        s
     }
 }

@@ -1,28 +1,67 @@
--- The three tests are those of the sheet's parts (`sheet-parts`).
+-- What was found up to i, with the test from i on, is the test over all.
+use Prim.Native.Nat.{_≤_, _-_}
+use mathlib.Core.Path.{_≡_, refl, sym, _∙_}
+use mathlib.Core.Bool.{_&&_}
+use lib.ListN.{getD, take, drop}
+use native.Mathlib.Omega.{arith}
 use borrow.Author.Needs.{needs}
-use Rattle.settings.proofs.Tabled.{sheet-parts}
+use Rattle.ground.specs.Members.{every}
+use Rattle.ground.proofs.Ranges.{range-next, range-end}
+use Rattle.settings.specs.Mnemonics.{held}
+use Rattle.settings.specs.Limits.{rowWithin, within}
+use Rattle.settings.specs.declared.mnemonic.Setting.the-variants.{Uni}
 use Rattle.settings.proofs.Settings.is_within.Statement.{statement}
 use Rattle.settings.proofs.Settings.is_within.Tie as tie
 
-numbers-are-within-requires : tie.Need-numbers-are-within-requires
-numbers-are-within-requires c κs = search needs
+abbrev Inv-loop : tie.InvT-loop
+Inv-loop self model table all₀ i₀ all i = (i ≤ 17) × (all && every (rowWithin model self) (take (17 - i) (drop i held)) ≡ within model self)
 
-switchings-are-within-requires : tie.Need-switchings-are-within-requires
-switchings-are-within-requires c κs = search needs
+abbrev μ-loop : tie.MeasureT-loop
+μ-loop self model table all₀ i₀ all i = 17 - i
 
-stored-are-within-requires : tie.Need-stored-are-within-requires
-stored-are-within-requires c κs = search needs
+loop-holds : tie.Need-loop-holds Inv-loop μ-loop
+unfolding within
+loop-holds c = (omega arith, refl)
 
-returns : tie.Need-returns
+mul-holds : tie.Need-mul-holds Inv-loop μ-loop
+mul-holds c = search needs
+
+array-copy-out-holds : tie.Need-array-copy-out-holds Inv-loop μ-loop
+array-copy-out-holds c = search needs
+
+holds-requires : tie.Need-holds-requires Inv-loop μ-loop
+holds-requires c κs = search needs
+
+add-i : tie.Need-add-i Inv-loop μ-loop
+add-i c = search needs
+
+loop-less : tie.Need-loop-less Inv-loop μ-loop
+loop-less c = search needs
+
+loop-again : tie.Need-loop-again Inv-loop μ-loop
+loop-again c =
+    let l = c .before .before .before .loop in
+    let a = c .before .before .before .before .args in
+    let p = rowWithin (a .model) (a .self) in
+    (omega arith, rw (c .holds .ensures) (range-next p Uni held (l .i) 17 (l .all) (c .before .before .loop-test .taken) (omega arith)) ∙ l .inv .1)
+
+returns : tie.Need-returns Inv-loop μ-loop
 returns c =
-    let a = c .before .before .before .args in
-    rw (c .stored-are-within .ensures, c .before .switchings-are-within .ensures, c .before .before .numbers-are-within .ensures) (sheet-parts (a .model) (a .self))
+    let l = c .before .loop in
+    let a = c .before .before .args in
+    sym (range-end (rowWithin (a .model) (a .self)) Uni held (l .i) 17 (l .all) (c .loop-test .left)) ∙ l .inv .1
 
 pub is-within-spec : {M : Type 1} → statement M
 is-within-spec =
     tie.close
     (tie.spec
-    numbers-are-within-requires
-    switchings-are-within-requires
-    stored-are-within-requires
+    Inv-loop
+    μ-loop
+    loop-holds
+    mul-holds
+    array-copy-out-holds
+    holds-requires
+    add-i
+    loop-less
+    loop-again
     returns)

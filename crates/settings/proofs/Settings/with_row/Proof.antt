@@ -4,9 +4,10 @@ use mathlib.Core.Path.{_≡_, sym, ap, _∙_}
 use mathlib.Core.List.{List, map}
 use lib.ListN.{length, length-map}
 use lib.Seq.{set-out}
-use borrow.Author.Needs.{needs}
 use native.Mathlib.Omega.{arith}
-use Rattle.settings.specs.Rows.{withStored, withSwitching, firstNumber, switchingOf}
+use borrow.Author.Needs.{needs}
+use Rattle.settings.specs.Cells.{pairOf, switchingOf}
+use Rattle.settings.specs.Rows.{withStored, withSwitching}
 use Rattle.settings.proofs.Settings.with_row.Statement.{statement}
 use Rattle.settings.proofs.Settings.with_row.Tie as tie
 
@@ -19,12 +20,6 @@ enum-told c = search needs
 
 enum-told-2 : tie.Need-enum-told-2
 enum-told-2 c = search needs
-
-enum-told-3 : tie.Need-enum-told-3
-enum-told-3 c = search needs
-
-enum-told-4 : tie.Need-enum-told-4
-enum-told-4 c = search needs
 
 enum-known-x : tie.Need-enum-known-x
 enum-known-x c = search needs
@@ -44,11 +39,11 @@ enum-known-x-2 c = search needs
 cast-i-2 : tie.Need-cast-i-2
 cast-i-2 c = search needs
 
-mul-s : tie.Need-mul-s
-mul-s c = search needs
+mul-t19 : tie.Need-mul-t19
+mul-t19 c = search needs
 
-element-write-s : tie.Need-element-write-s
-element-write-s c = search needs
+element-set-from-s-2 : tie.Need-element-set-from-s-2
+element-set-from-s-2 c = search needs
 
 returns : tie.Need-returns
 returns c = rw (c .enum-told .given .1)
@@ -57,30 +52,24 @@ returns-2 : tie.Need-returns-2
 returns-2 c = rw (c .before .enum-told2 .given .1)
 
 returns-3 : tie.Need-returns-3
-returns-3 c = rw (c .before .enum-told3 .given .1)
+returns-3 c = rw (c .before .before .x .given .1)
 
 returns-4 : tie.Need-returns-4
-returns-4 c = rw (c .before .enum-told4 .given .1)
-
-returns-5 : tie.Need-returns-5
-returns-5 c = rw (c .before .before .x .given .1)
-
-returns-6 : tie.Need-returns-6
-returns-6 c =
+returns-4 c =
     let a = c .before .before .before .before .before .before .before .args in
     let x = c .before .before .x .given in
     let n : length (a .self .switching) ≡ 4 = search (needs, length-mapped) in
     rw (x .1) (ap (withSwitching (a .self)) (sym (set-out (a .self .switching) (x .0 .0) (switchingOf (a .r)) (omega arith))))
 
-returns-7 : tie.Need-returns-7
-returns-7 c = rw (c .before .before .x2 .given .1)
+returns-5 : tie.Need-returns-5
+returns-5 c = rw (c .before .before .x2 .given .1)
 
-returns-8 : tie.Need-returns-8
-returns-8 c =
+returns-6 : tie.Need-returns-6
+returns-6 c =
     let a = c .before .before .before .before .before .before .before .args in
     let x = c .before .before .x2 .given in
-    let n : length (a .self .stored) ≡ 9 = search needs in
-    rw (x .1) (ap (withStored (a .self)) (sym (set-out (a .self .stored) (x .0 .0) (firstNumber (a .r)) (omega arith))))
+    let n : length (a .self .stored) ≡ 11 = search (needs, length-mapped) in
+    rw (x .1) (ap (withStored (a .self)) (sym (set-out (a .self .stored) (x .0 .0) (pairOf (a .r)) (omega arith))))
 
 pub with-row-spec : {M : Type 1} → statement M
 with-row-spec =
@@ -88,21 +77,17 @@ with-row-spec =
     (tie.spec
     enum-told
     enum-told-2
-    enum-told-3
-    enum-told-4
     enum-known-x
     cast-i
     mul-t14
     element-set-from-s
     enum-known-x-2
     cast-i-2
-    mul-s
-    element-write-s
+    mul-t19
+    element-set-from-s-2
     returns
     returns-2
     returns-3
     returns-4
     returns-5
-    returns-6
-    returns-7
-    returns-8)
+    returns-6)

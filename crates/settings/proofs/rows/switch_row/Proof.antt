@@ -1,9 +1,11 @@
 -- The cells of the function at that place, and past the last one a row of zeros (`List·getD-eq-default`).
 use mathlib.Core.Path.{_≡_, sym, ap, _∙_}
 use lib.ListN.{length, List·getD-eq-default}
-use borrow.Author.Needs.{needs}
 use native.Mathlib.Omega.{arith}
-use Rattle.settings.specs.Rows.{noSwitching, cellsOf}
+use borrow.Author.Tests.{lt-ltb, le-ltb}
+use borrow.Author.Needs.{needs}
+use Rattle.settings.specs.Cells.{cellsOf}
+use Rattle.settings.specs.Rows.{noSwitching}
 use Rattle.settings.proofs.rows.switch_row.Statement.{statement}
 use Rattle.settings.proofs.rows.switch_row.Tie as tie
 

@@ -1,7 +1,7 @@
 -- The first seventeen are those of the sheet (`known-sheet`), and behind them stand the others (`known-others`).
 use mathlib.Core.Path.{ap, _∙_}
 use borrow.Author.Needs.{needs}
-use Rattle.settings.specs.declared.mnemonic.Mnemonic.the-variants.{OfSetting}
+use Rattle.settings.specs.Mnemonics.{setting}
 use Rattle.settings.proofs.Names.{known-sheet, known-others}
 use Rattle.settings.proofs.model.Model.known_at.Statement.{statement}
 use Rattle.settings.proofs.model.Model.known_at.Tie as tie
@@ -10,7 +10,7 @@ sheet-at-requires : tie.Need-sheet-at-requires
 sheet-at-requires c κs = search needs
 
 returns : tie.Need-returns
-returns c = let a = c .before .before .args in ap OfSetting (c .sheet-at .ensures) ∙ known-sheet (a .self) (a .i) (c .before .if1 .taken)
+returns c = let a = c .before .before .args in ap setting (c .sheet-at .ensures) ∙ known-sheet (a .self) (a .i) (c .before .if1 .taken)
 
 mul-result : tie.Need-mul-result
 mul-result c = search needs

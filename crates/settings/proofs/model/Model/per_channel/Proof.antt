@@ -1,22 +1,27 @@
--- One field of the kind on a 361, and two of it on a 362.
 use borrow.Author.Needs.{needs}
 use Rattle.settings.proofs.model.Model.per_channel.Statement.{statement}
 use Rattle.settings.proofs.model.Model.per_channel.Tie as tie
+use Rattle.settings.proofs.model.Model.per_channel.Reads as reads
+use Rattle.settings.proofs.model.Model.per_channel.Lts as lts
+use Rattle.settings.proofs.model.Model.channels.Reads as channels-reads
+use Rattle.settings.proofs.model.Model.numbers.Reads as numbers-reads
+use Rattle.settings.proofs.table.whole.Reads as whole-reads
 
-enum-told : tie.Need-enum-told
-enum-told c = search needs
+-- src/table.rt:127:28
+channels-requires : tie.Need-channels-requires
+channels-requires c κs = search needs
 
-one-requires : tie.Need-one-requires
-one-requires c κs = search needs
+-- src/table.rt:127:45
+whole-requires : tie.Need-whole-requires
+whole-requires c κs = search needs
 
-enum-told-2 : tie.Need-enum-told-2
-enum-told-2 c = search needs
+-- src/table.rt:127:9
+numbers-requires : tie.Need-numbers-requires
+numbers-requires c κs = search needs
 
+-- src/table.rt:124:5
 returns : tie.Need-returns
-returns c = rw (c .one .ensures, c .before .enum-told .given .1)
-
-returns-2 : tie.Need-returns-2
-returns-2 c = rw (c .enum-told2 .given .1)
+returns c = rw (c .numbers .ensures, c .before .whole .ensures, c .before .before .channels .ensures)
 
 pub per-channel-spec : {M : Type 1} → statement M
-per-channel-spec = tie.close (tie.spec enum-told one-requires enum-told-2 returns returns-2)
+per-channel-spec = tie.close (tie.spec channels-requires whole-requires numbers-requires returns)

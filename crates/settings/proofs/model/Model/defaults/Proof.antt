@@ -1,0 +1,59 @@
+-- Each pair is the default of its row.
+use borrow.Author.Needs.{needs}
+use Rattle.settings.specs.Table.{storedEntry}
+use Rattle.settings.proofs.model.Model.defaults.Statement.{statement}
+use Rattle.settings.proofs.model.Model.defaults.Tie as tie
+
+preset-requires : tie.Need-preset-requires
+preset-requires c κs = search needs
+
+preset-requires-2 : tie.Need-preset-requires-2
+preset-requires-2 c κs = search needs
+
+preset-requires-3 : tie.Need-preset-requires-3
+preset-requires-3 c κs = search needs
+
+preset-requires-4 : tie.Need-preset-requires-4
+preset-requires-4 c κs = search needs
+
+preset-requires-5 : tie.Need-preset-requires-5
+preset-requires-5 c κs = search needs
+
+preset-requires-6 : tie.Need-preset-requires-6
+preset-requires-6 c κs = search needs
+
+preset-requires-7 : tie.Need-preset-requires-7
+preset-requires-7 c κs = search needs
+
+preset-requires-8 : tie.Need-preset-requires-8
+preset-requires-8 c κs = search needs
+
+preset-requires-9 : tie.Need-preset-requires-9
+preset-requires-9 c κs = search needs
+
+preset-requires-10 : tie.Need-preset-requires-10
+preset-requires-10 c κs = search needs
+
+preset-requires-11 : tie.Need-preset-requires-11
+preset-requires-11 c κs = search needs
+
+returns : tie.Need-returns
+unfolding storedEntry
+returns c = rw (c .preset11 .ensures, c .before .preset10 .ensures, c .before .before .preset9 .ensures, c .before .before .before .preset8 .ensures, c .before .before .before .before .preset7 .ensures, c .before .before .before .before .before .preset6 .ensures, c .before .before .before .before .before .before .preset5 .ensures, c .before .before .before .before .before .before .before .preset4 .ensures, c .before .before .before .before .before .before .before .before .preset3 .ensures, c .before .before .before .before .before .before .before .before .before .preset2 .ensures, c .before .before .before .before .before .before .before .before .before .before .preset .ensures)
+
+pub defaults-spec : {M : Type 1} → statement M
+defaults-spec =
+    tie.close
+    (tie.spec
+    preset-requires
+    preset-requires-2
+    preset-requires-3
+    preset-requires-4
+    preset-requires-5
+    preset-requires-6
+    preset-requires-7
+    preset-requires-8
+    preset-requires-9
+    preset-requires-10
+    preset-requires-11
+    returns)

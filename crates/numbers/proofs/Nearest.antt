@@ -1,17 +1,17 @@
 -- Significant digits, half upwards: where n / d is placed, how far its digits and its power reach, that they are the nearest, and alone are.
 use Prim.Native.Nat.{ℕ, suc, _+_, _-_, _*_, _/_, _%_, _^_, _≤_, _<_}
 use mathlib.Core.Path.{_≡_, sym, ap, _∙_}
-use mathlib.Core.Bool.{true}
+use mathlib.Core.Bool.{true, false}
 use mathlib.Core.Logic.{_↔_, ⊎-elim}
 use native.Mathlib.Omega.{arith}
 use native.Mathlib.Nat.{add-zero, mul-le-mul, mul-le-mul-left, mul-le-mul-right, mul-lt-mul-of-pos-right, lt-of-mul-lt-mul-right, le-of-mul-le-mul-right, mul-pos, one-le-pow, pow-le-pow-right, div-mul-le-self, lt-div-mul-add, le-div-iff-mul-le, div-lt-iff-lt-mul, div-eq-of-lt-le, div-add-mod', mod-lt}
 use native.Mathlib.Numerals.{add-one}
 use lib.Pow.{pow-add}
-use borrow.Author.Tests.{eqb-true, eqb-false, ne-eqb}
+use borrow.Author.Tests.{eqb-true, eqb-false, ne-eqb, le-ltb}
 use lib.Dec.{eqb}
 use lib.IntN.{ℤ, pos, natAbs, _+ℤ_, _-ℤ_, +ℤ-idr, -ℤ-+ℤ-cancel, +ℤ-negℤ-cancel}
 use Rattle.ground.proofs.Cases.{below, cond-cases, in-range}
-use Rattle.numbers.specs.Numbers.{five, least, OfDigits, fiveDigits, tens, tenths}
+use Rattle.numbers.specs.Numbers.{five, least, OfDigits, fiveDigits, tens, tenths, less, asValue}
 use Rattle.numbers.specs.Rounding.{nearest, up, down, digits, power, rounded, levelled, Nearest}
 use Rattle.numbers.specs.declared.threshold.Threshold.{Threshold}
 use Rattle.numbers.proofs.Climb.{climb-reaches, climb-enough, climb-none, climb-short}
@@ -254,6 +254,12 @@ module _ {p n d : ℕ} {x : ℤ} {t : Threshold} {n′ d′ : ℕ} {x′ : ℤ} 
       absurd (crossed (levelled t u + levelled u t) c (n * tens x) (d * tenths x) (n′ * tens x′) (d′ * tenths x′) (mul-pos some (tenths-some x))
       (omega (arith, r .below u b l)) (omega (arith, s .above t a l)) h))
       (λ (g : levelled t u ≤ levelled u t). g) (below (levelled u t) (levelled t u))
+
+  -- rounding is monotone: where n / d times ten to the x is at most the other number, what is nearest to it is not above
+  -- what is nearest to the other (for thresholds that are taken to another unit)
+  pub nearest-monotone : less (asValue u) (asValue t) ≡ false
+  unfolding less
+  nearest-monotone = le-ltb _ _ nearest-at-most
 
 -- no two numbers are nearest
 pub nearest-only : {p n d : ℕ} {x : ℤ} {t u : Threshold} → 0 < d → Nearest p n d x t → Nearest p n d x u → OfDigits p (t .mantissa) → OfDigits p (u .mantissa)

@@ -11,7 +11,7 @@ use Rattle.text.specs.Text.{ascii}
 use Rattle.text.specs.Digits.{bare}
 use Rattle.text.specs.Control.{crLf, enq, lf}
 use Rattle.numbers.specs.Numbers.{less, isBelow, isAbove}
-use Rattle.numbers.specs.Rounding.{climbWithin, five, power, rounded, fittedTo, scaledBy}
+use Rattle.numbers.specs.Rounding.{climbWithin, digits, power, rounded, fittedTo, scaledBy}
 use Rattle.numerals.specs.Runs.{lead, rest, headIs, value}
 use Rattle.numerals.specs.Whole.{numberOf, behindPoint, factorOf}
 use Rattle.numerals.specs.Exponential.{afterPlus, afterSign, powerOf, composed, fraction, afterFraction, thresholdOf}
@@ -145,7 +145,7 @@ starred =
     ∷ []
 
 pub starred-hold : Hold starred
-unfolding bare climbWithin five power rounded fittedTo scaledBy lead rest headIs value numberOf behindPoint factorOf afterPlus afterSign powerOf composed fraction afterFraction thresholdOf scientific withinLimits every known same found recognised answers storedKinds within fields limited fieldsRead formed valued withFields judged settingText grown kindOf concluded asked byKind heard lineWithin portWithin measured written instrumentWithin replyText stateWithin eventText next sent after said taken admits roomed roomedBytes hosted readingCall
+unfolding bare climbWithin digits power rounded fittedTo scaledBy lead rest headIs value numberOf behindPoint factorOf afterPlus afterSign powerOf composed fraction afterFraction thresholdOf scientific withinLimits every known same found recognised answers storedKinds within fields limited fieldsRead formed valued withFields judged settingText grown kindOf concluded asked byKind heard lineWithin portWithin measured written instrumentWithin replyText stateWithin eventText next sent after said taken admits roomed roomedBytes hosted readingCall
 starred-hold = refl
 
 -- ---- 01's example, its other examples and its wrong readings
@@ -194,5 +194,5 @@ examples =
     ∷ []
 
 pub examples-hold : Hold examples
-unfolding bare less isBelow isAbove climbWithin five power rounded fittedTo scaledBy lead rest headIs value numberOf behindPoint factorOf afterPlus afterSign powerOf composed fraction afterFraction thresholdOf scientific withinLimits switched every known same found recognised answers storedKinds within fields limited fieldsRead formed valued withFields judged settingText grown ticked kindOf concluded asked byKind heard lineWithin portWithin measured written instrumentWithin eachChannel replyText streamText stateWithin eventText next sent after said taken admits roomed roomedBytes hosted tickText counted afterTicks ticksText readingCall cycleCall
+unfolding bare less isBelow isAbove climbWithin digits power rounded fittedTo scaledBy lead rest headIs value numberOf behindPoint factorOf afterPlus afterSign powerOf composed fraction afterFraction thresholdOf scientific withinLimits switched every known same found recognised answers storedKinds within fields limited fieldsRead formed valued withFields judged settingText grown ticked kindOf concluded asked byKind heard lineWithin portWithin measured written instrumentWithin eachChannel replyText streamText stateWithin eventText next sent after said taken admits roomed roomedBytes hosted tickText counted afterTicks ticksText readingCall cycleCall
 examples-hold = refl

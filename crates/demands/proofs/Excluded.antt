@@ -14,7 +14,7 @@ use Rattle.ground.proofs.Members.{each-map, each-both, every-each}
 use Rattle.text.specs.Text.{ascii}
 use Rattle.text.specs.Digits.{bare}
 use Rattle.text.specs.Control.{crLf, ack}
-use Rattle.numbers.specs.Rounding.{climbWithin, five, power, rounded, fittedTo}
+use Rattle.numbers.specs.Rounding.{climbWithin, digits, power, rounded, fittedTo}
 use Rattle.numerals.specs.Runs.{lead, rest, headIs, value}
 use Rattle.numerals.specs.Whole.{numberOf, behindPoint, factorOf}
 use Rattle.numerals.specs.Exponential.{afterPlus, afterSign, powerOf, composed, fraction, afterFraction, thresholdOf}
@@ -92,7 +92,7 @@ moved : Model → Setting → Bool
 moved model x = not (same (settingText model (boxSettings (changed model x)) x) (settingText model (defaults model) x))
 
 all-moved : (model : Model) → every (moved model) (sheet model) ≡ true
-unfolding moved changed others bare climbWithin five power rounded fittedTo lead rest headIs value numberOf behindPoint factorOf afterPlus afterSign powerOf composed fraction afterFraction thresholdOf scientific every known same found recognised storedKinds fields limited fieldsRead formed valued withFields judged settingText grown kindOf concluded asked byKind heard written eventText next sent after
+unfolding moved changed others bare climbWithin digits power rounded fittedTo lead rest headIs value numberOf behindPoint factorOf afterPlus afterSign powerOf composed fraction afterFraction thresholdOf scientific every known same found recognised storedKinds fields limited fieldsRead formed valued withFields judged settingText grown kindOf concluded asked byKind heard written eventText next sent after
 all-moved Tpg361 = refl
 all-moved Tpg362 = refl
 

@@ -6,7 +6,7 @@ use mathlib.Core.List.{List, [], _∷_, map}
 use lib.IntN.{ℤ, pos, negsuc}
 use Rattle.text.specs.Text.{ascii}
 use Rattle.text.specs.Digits.{bare}
-use Rattle.numbers.specs.Rounding.{climbWithin, five, power, rounded, scaledBy}
+use Rattle.numbers.specs.Rounding.{climbWithin, digits, power, rounded, scaledBy}
 use Rattle.numerals.specs.Writing.{scientific}
 use Rattle.gauges.specs.Readings.{noReading}
 use Rattle.gauges.specs.Shown.{shownOf, shownText}
@@ -39,5 +39,5 @@ examples =
     ∷ []
 
 pub shown-examples-hold : map (λ (r : Example). shownText (shownOf (r .reading) (r .unit))) examples ≡ map (λ (r : Example). ascii (r .sent)) examples
-unfolding bare scientific climbWithin five power rounded scaledBy
+unfolding bare scientific climbWithin digits power rounded scaledBy
 shown-examples-hold = refl

@@ -11,7 +11,7 @@ use lib.ListN.{length}
 use Rattle.ground.proofs.Cases.{or-either, or-right, cond-cases}
 use Rattle.text.specs.Text.{ascii}
 use Rattle.text.proofs.Decimals.{whole-digit}
-use Rattle.numbers.specs.Numbers.{between, isZero, isFive, isNumber, isBelow, isAbove, signed}
+use Rattle.numbers.specs.Numbers.{five, between, isZero, isFive, isNumber, isBelow, isAbove, signed, unsigned}
 use Rattle.numbers.specs.Rounding.{isUsable, scaledBy, Nearest}
 use Rattle.numbers.specs.declared.threshold.Threshold.{Threshold}
 use Rattle.numbers.specs.declared.value.Value.{Value}
@@ -26,14 +26,14 @@ use Rattle.gauges.specs.declared.reading.Reading.{Reading}
 use Rattle.gauges.specs.declared.shown.Shown.{Shown}
 use Rattle.gauges.proofs.ReadingLimits.{zero-is, known, in-range}
 
-module _ (r : Reading) (unit : ℕ) (five : isFive (inHpa r) ≡ true) where
+module _ (r : Reading) (unit : ℕ) (h : isFive (inHpa r) ≡ true) where
   scalable : isFive (inHpa r) && isUsable (fromHpa unit) ≡ true
-  scalable = ap₂ _&&_ five (usable unit)
+  scalable = ap₂ _&&_ h (usable unit)
 
   -- in any unit the shown value is the five-digit number nearest to the exact one, a tie going upwards
-  pub shown-nearest : Nearest
+  pub shown-nearest : Nearest five
       (natAbs (inHpa r .mantissa) * fromHpa unit .over) (fromHpa unit .under) (inHpa r .exponent -ℤ pos 4)
-      (natAbs (shownOf r unit .value .mantissa)) (shownOf r unit .value .exponent)
+      (unsigned (shownOf r unit .value))
   shown-nearest = scaled-nearest (inHpa r) (fromHpa unit) scalable
 
   -- the sign is kept
@@ -78,7 +78,8 @@ module _ (r : Reading) (unit : ℕ) (h : withinLimits r ≡ true) where
       ⊎-elim (λ (z : isZero (inHpa r) ≡ true). rw (shown-zero r unit z))
       (λ (f : isFive (inHpa r) ≡ true).
       let d = scaled-five (inHpa r) (fromHpa unit) (scalable r unit f) in
-      let digits = ap₂ _&&_ (le-leb _ _ (d .0)) (le-leb _ _ (d .1)) in
+      let m = natAbs (shownOf r unit .value .mantissa) in
+      let digits = ap₂ _&&_ (le-leb 10000 m (d .0)) (le-leb m 99999 (omega (arith, d .1))) in
       let two = near-between 98 (shownOf r unit .value .exponent) (omega (arith, shown-exponent)) in
       or-right (isZero (shownOf r unit .value)) (isFive (shownOf r unit .value)) (ap₂ _&&_ digits two))
       zero-or-digits

@@ -8,7 +8,7 @@ use native.Mathlib.Omega.{arith}
 use lib.ListN.{length, take}
 use Rattle.text.specs.Text.{ascii}
 use Rattle.text.specs.Digits.{dig, bare}
-use Rattle.numbers.specs.Rounding.{climbWithin, five, power, rounded, fittedTo}
+use Rattle.numbers.specs.Rounding.{climbWithin, digits, power, rounded, fittedTo}
 use Rattle.numerals.specs.Runs.{lead, rest, headIs, value}
 use Rattle.numerals.specs.Whole.{numeralFault, numberOf}
 use Rattle.numerals.specs.Exponential.{thresholdFault, afterPlus, afterSign, powerOf, composed, fraction, afterFraction, thresholdOf}
@@ -86,7 +86,7 @@ abbrev pub expected : List Line → List (List ℕ)
 expected = map (λ (l : Line). ascii (l .said))
 
 pub lines-hold : answers lines ≡ expected lines
-unfolding bare climbWithin five power rounded fittedTo lead rest headIs value numberOf afterPlus afterSign powerOf composed fraction afterFraction thresholdOf known same found recognised storedKinds fields limited fieldsRead formed valued withFields judged
+unfolding bare climbWithin digits power rounded fittedTo lead rest headIs value numberOf afterPlus afterSign powerOf composed fraction afterFraction thresholdOf known same found recognised storedKinds fields limited fieldsRead formed valued withFields judged
 lines-hold = refl
 
 -- ---- the error word of a field

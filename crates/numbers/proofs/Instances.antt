@@ -5,19 +5,16 @@ use mathlib.Core.Bool.{true, false}
 use mathlib.Core.List.{List, [], _∷_, map}
 use lib.IntN.{ℤ, pos, negsuc, natAbs}
 use Rattle.numbers.specs.Numbers.{withinStops, isFive, isZero, isNumber, less, isBelow}
-use Rattle.numbers.specs.Rounding.{isUsable}
+use Rattle.numbers.specs.Rounding.{climbWithin, digits, power, rounded, isUsable}
+use Rattle.numbers.specs.Units.{ratio}
 use Rattle.numbers.specs.declared.threshold.Threshold.{Threshold}
 use Rattle.numbers.specs.declared.value.Value.{Value}
-use Rattle.numbers.specs.declared.value.Ratio.{Ratio}
 
 abbrev threshold : ℕ → ℤ → Threshold
 threshold m e = record { mantissa = m; exponent = e }
 
 abbrev value : ℤ → ℤ → Value
 value m e = record { mantissa = m; exponent = e }
-
-abbrev ratio : ℕ → ℕ → Ratio
-ratio n d = record { over = n; under = d }
 
 -- "1.0000E-20 to 9.9999E+20": both ends, and the number beside each
 pub end-stops : map withinStops (threshold 10000 (negsuc 19) ∷ threshold 99999 (pos 20) ∷ threshold 99999 (negsuc 20) ∷ threshold 10000 (pos 21) ∷ []) ≡ true ∷ true ∷ false ∷ false ∷ []
@@ -41,6 +38,11 @@ five-alone = refl
 pub two-not-below : isBelow (value (pos 20000) (pos 0)) (threshold 10000 (pos 0)) ≡ false
 unfolding less isBelow
 two-not-below = refl
+
+-- 1234, and two ties to three digits, one of which carries
+pub three-digits : map (λ (n : ℕ). rounded 3 n 1 (pos 0)) (1234 ∷ 1235 ∷ 9995 ∷ []) ≡ threshold 123 (pos 3) ∷ threshold 124 (pos 3) ∷ threshold 100 (pos 4) ∷ []
+unfolding climbWithin digits power rounded
+three-digits = refl
 
 -- a part of 0, a part of 10^13, and two parts of 10^12
 pub ratio-parts : map isUsable (ratio 0 1 ∷ ratio 1 0 ∷ ratio 10000000000000 1 ∷ ratio 1 10000000000000 ∷ ratio 1000000000000 1000000000000 ∷ []) ≡ false ∷ false ∷ false ∷ false ∷ true ∷ []

@@ -12,10 +12,11 @@ use lib.Signed.{ltZ, leZ, nonNeg, pos-natAbs}
 use mir.Syntax.{w32}
 use mir.Val.{Fits, SFits, toZ, ofZ}
 use mir.Facts.{toZ-ofZ, fits-natAbs}
-use Rattle.ground.proofs.Cases.{below, in-range, and-both, and-not-both}
-use Rattle.numbers.specs.Numbers.{isNumber, withinStops, tens, tenths, less, isBelow, isAbove}
+use Rattle.ground.proofs.Cases.{below, and-both, and-not-both}
+use Rattle.numbers.specs.Numbers.{five, OfDigits, isNumber, withinStops, tens, tenths, less, asValue, unsigned, isBelow, isAbove}
 use Rattle.numbers.specs.declared.threshold.Threshold.{Threshold}
 use Rattle.numbers.specs.declared.value.Value.{Value}
+use Rattle.numbers.proofs.Nearest.{of-five}
 use Rattle.numbers.proofs.Stops.{stops-digits}
 use Rattle.numbers.proofs.Fractions.{tens-some, tenths-some}
 
@@ -47,8 +48,8 @@ tenfold (negsuc a) (negsuc b) h =
     let l : suc (suc b) ≤ suc a = omega (arith, ltb-true b a h) in
     omega (arith, pow-suc 10 (suc b), pow-le-pow-right {n = 10} (omega arith) l)
 
-five-below : (m n p q : ℕ) → m ≤ 99999 → 10000 ≤ n → 0 < p → 10 * p ≤ q → m * p < n * q
-five-below m n p q hm hn hp hq = omega (arith, mul-le-mul-right p hm, mul-le-mul hn hq)
+five-below : (m n p q : ℕ) → OfDigits five m → OfDigits five n → 0 < p → 10 * p ≤ q → m * p < n * q
+five-below m n p q hm hn hp hq = omega (arith, mul-le-mul-right p (hm .1), mul-le-mul (hn .0) hq)
 
 -- a factor that is not zero keeps the order
 factor : (m n p : ℕ) → 0 < p → ltb (m * p) (n * p) ≡ ltb m n
@@ -61,10 +62,10 @@ abbrev pub smaller : ℕ → ℤ → ℕ → ℤ → Bool
 smaller m e n f = ltb (m * (tens e * tenths f)) (n * (tens f * tenths e))
 
 module _ (m : ℕ) (e : ℤ) (n : ℕ) (f : ℤ) where
-  pub lower-exponent : m ≤ 99999 → 10000 ≤ n → ltZ e f ≡ true → smaller m e n f ≡ true
+  pub lower-exponent : OfDigits five m → OfDigits five n → ltZ e f ≡ true → smaller m e n f ≡ true
   lower-exponent hm hn h = lt-ltb _ _ (five-below m n _ _ hm hn (powers e f) (tenfold e f h))
 
-  pub higher-exponent : 10000 ≤ m → n ≤ 99999 → ltZ f e ≡ true → smaller m e n f ≡ false
+  pub higher-exponent : OfDigits five m → OfDigits five n → ltZ f e ≡ true → smaller m e n f ≡ false
   higher-exponent hm hn h = le-ltb _ _ (le-of-lt (five-below n m _ _ hn hm (powers f e) (tenfold f e h)))
 
   pub same-exponent : ltZ e f ≡ false → ltZ f e ≡ false → smaller m e n f ≡ ltb m n
@@ -75,20 +76,17 @@ neg-lt zero n h = absurd (omega arith)
 neg-lt (suc k) n h = refl
 
 -- zero and what is negative is below every number above zero
-pub less-nonpositive : (z e : ℤ) (n : ℕ) (f : ℤ) → leZ z (pos 0) ≡ true → 0 < n → less z e (pos n) f ≡ true
+pub less-nonpositive : (z e : ℤ) (t : Threshold) → leZ z (pos 0) ≡ true → 0 < t .mantissa → less (record { mantissa = z; exponent = e }) (asValue t) ≡ true
 unfolding less
-less-nonpositive (pos zero) e n f h k = rw zero-mul (lt-ltb 0 _ (mul-pos k (powers f e)))
-less-nonpositive (pos (suc m)) e n f h k = absurd (let l : suc m ≤ 0 = leb-true (suc m) 0 h in omega arith)
-less-nonpositive (negsuc m) e n f h k = neg-lt (suc m * (tens e * tenths f)) (n * (tens f * tenths e)) (mul-pos (omega arith) (powers e f))
-
-pub less-naturals : (m : ℕ) (e : ℤ) (n : ℕ) (f : ℤ) → less (pos m) e (pos n) f ≡ smaller m e n f
-unfolding less
-less-naturals m e n f = refl
+less-nonpositive (pos zero) e t h k = rw zero-mul (lt-ltb 0 _ (mul-pos k (powers (t .exponent) e)))
+less-nonpositive (pos (suc m)) e t h k = absurd (let l : suc m ≤ 0 = leb-true (suc m) 0 h in omega arith)
+less-nonpositive (negsuc m) e t h k =
+    neg-lt (suc m * (tens e * tenths (t .exponent))) (t .mantissa * (tens (t .exponent) * tenths e)) (mul-pos (omega arith) (powers e (t .exponent)))
 
 -- of two numbers one at most is less than the other
-pub less-not-both : (m e n f : ℤ) → less m e n f ≡ true → less n f m e ≡ false
+pub less-not-both : (v w : Value) → less v w ≡ true → less w v ≡ false
 unfolding less
-less-not-both m e n f h = lt-not-gt (m *ℤ pos (tens e * tenths f)) (n *ℤ pos (tens f * tenths e)) h
+less-not-both v w h = lt-not-gt (v .mantissa *ℤ pos (tens (v .exponent) * tenths (w .exponent))) (w .mantissa *ℤ pos (tens (w .exponent) * tenths (v .exponent))) h
 
 not-negative : (z : ℤ) → leZ z (pos 0) ≡ false → T (nonNeg z)
 not-negative (pos n) h = tt
@@ -100,11 +98,11 @@ not-zero (negsuc n) h q = subst T h tt
 
 module _ (v : Value) (t : Threshold) where
   -- below and above are the order of the numbers
-  pub below-is-less : isNumber v ≡ true → withinStops t ≡ true → isBelow v t ≡ less (v .mantissa) (v .exponent) (pos (t .mantissa)) (t .exponent)
+  pub below-is-less : isNumber v ≡ true → withinStops t ≡ true → isBelow v t ≡ less v (asValue t)
   unfolding isBelow
   below-is-less h k = and-both (isNumber v) (withinStops t) _ h k
 
-  pub above-is-less : isNumber v ≡ true → withinStops t ≡ true → isAbove v t ≡ less (pos (t .mantissa)) (t .exponent) (v .mantissa) (v .exponent)
+  pub above-is-less : isNumber v ≡ true → withinStops t ≡ true → isAbove v t ≡ less (asValue t) v
   unfolding isAbove
   above-is-less h k = and-both (isNumber v) (withinStops t) _ h k
 
@@ -114,7 +112,7 @@ module _ (v : Value) (t : Threshold) where
   below-not-above h =
       let a = and-eq-true-iff (isNumber v) _ .0 h in
       let b = and-eq-true-iff (withinStops t) _ .0 (a .1) in
-      above-is-less (a .0) (b .0) ∙ less-not-both (v .mantissa) (v .exponent) (pos (t .mantissa)) (t .exponent) (b .1)
+      above-is-less (a .0) (b .0) ∙ less-not-both v (asValue t) (b .1)
 
 -- What `is_below` and `is_above` start from: the answers n and w, and that 32 bits hold each number that they read.
 pub record Beside (v : Value) (t : Threshold) (n w : Bool) : Type 0 where
@@ -136,13 +134,10 @@ module _ {v : Value} {t : Threshold} {n w : Bool} (beside : Beside v t n w) wher
     is-within : withinStops t ≡ true
     is-within = sym (beside .within) ∙ and-eq-true-iff n w .0 comparable .1
 
-    stop-digits : (10000 ≤ t .mantissa) × (t .mantissa ≤ 99999)
-    stop-digits = stops-digits t is-within
-
     nonpositive : leZ (read (v .mantissa)) (pos 0) ≡ true → isBelow v t ≡ true
     nonpositive h =
         below-is-less v t is-number is-within
-        ∙ less-nonpositive (v .mantissa) (v .exponent) (t .mantissa) (t .exponent) (rw (toZ-ofZ (beside .digits)) at h) (omega (arith, stop-digits))
+        ∙ less-nonpositive (v .mantissa) (v .exponent) t (rw (toZ-ofZ (beside .digits)) at h) (omega (arith, stops-digits t is-within))
 
     pub nonpositive-below : leZ (read (v .mantissa)) (pos 0) ≡ true → true ≡ isBelow v t
     nonpositive-below h = sym (nonpositive h)
@@ -157,28 +152,31 @@ module _ {v : Value} {t : Threshold} {n w : Bool} (beside : Beside v t n w) wher
       natural : v .mantissa ≡ pos (natAbs (v .mantissa))
       natural = sym (pos-natAbs (v .mantissa) (not-negative (v .mantissa) positive))
 
-      value-digits : (10000 ≤ natAbs (v .mantissa)) × (natAbs (v .mantissa) ≤ 99999)
+      value-digits : OfDigits five (natAbs (v .mantissa))
       value-digits =
           let h = rw (ne-eqb (natAbs (v .mantissa)) 0 (not-zero (v .mantissa) positive)) at is-number in
-          in-range 10000 99999 (natAbs (v .mantissa)) (and-eq-true-iff _ _ .0 h .0)
+          of-five (natAbs (v .mantissa)) (and-eq-true-iff _ _ .0 h .0)
 
       pub positive-cast : T (nonNeg (read (v .mantissa))) × Fits w32 (natAbs (read (v .mantissa)))
       positive-cast = rw (toZ-ofZ (beside .digits)) (not-negative (v .mantissa) positive, fits-natAbs tt (beside .digits))
 
-      pub positive-digits : (10000 ≤ natAbs (read (v .mantissa))) × (natAbs (read (v .mantissa)) ≤ 99999) × (10000 ≤ t .mantissa) × (t .mantissa ≤ 99999)
-      positive-digits = rw (toZ-ofZ (beside .digits)) (value-digits .0, value-digits .1, stop-digits .0, stop-digits .1)
+      pub positive-digits : OfDigits five (natAbs (read (v .mantissa))) × OfDigits five (t .mantissa)
+      positive-digits = rw (toZ-ofZ (beside .digits)) (value-digits, stops-digits t is-within)
+
+      as-natural : v ≡ asValue (unsigned v)
+      as-natural = ap (λ (z : ℤ). record { mantissa = z; exponent = v .exponent }) natural
 
       pub positive-below : {r : Bool} → r ≡ smaller (natAbs (read (v .mantissa))) (read (v .exponent)) (t .mantissa) (read (t .exponent)) → r ≡ isBelow v t
+      unfolding less
       positive-below h =
           rw (toZ-ofZ (beside .digits), toZ-ofZ (beside .power), toZ-ofZ (beside .stop)) at h
-          ∙ sym (less-naturals (natAbs (v .mantissa)) (v .exponent) (t .mantissa) (t .exponent))
-          ∙ sym (ap (λ z. less z (v .exponent) (pos (t .mantissa)) (t .exponent)) natural) ∙ sym (below-is-less v t is-number is-within)
+          ∙ sym (ap (λ w. less w (asValue t)) as-natural) ∙ sym (below-is-less v t is-number is-within)
 
       pub positive-above : {r : Bool} → r ≡ smaller (t .mantissa) (read (t .exponent)) (natAbs (read (v .mantissa))) (read (v .exponent)) → r ≡ isAbove v t
+      unfolding less
       positive-above h =
           rw (toZ-ofZ (beside .digits), toZ-ofZ (beside .power), toZ-ofZ (beside .stop)) at h
-          ∙ sym (less-naturals (t .mantissa) (t .exponent) (natAbs (v .mantissa)) (v .exponent))
-          ∙ sym (ap (λ z. less (pos (t .mantissa)) (t .exponent) z (v .exponent)) natural) ∙ sym (above-is-less v t is-number is-within)
+          ∙ sym (ap (less (asValue t)) as-natural) ∙ sym (above-is-less v t is-number is-within)
 
   pub no-below : n && w ≡ false → false ≡ isBelow v t
   unfolding isBelow

@@ -1,5 +1,5 @@
 -- Thresholds and signed values as numbers: d.dddd times a power of ten (01, "Settings"; "Readings, switching, streaming").
-use Prim.Native.Nat.{ℕ, suc, _*_, _^_}
+use Prim.Native.Nat.{ℕ, suc, _-_, _*_, _^_, _≤_, _<_}
 use mathlib.Core.Bool.{Bool, _&&_, _||_}
 use lib.Dec.{eqb}
 use lib.IntN.{ℤ, pos, negsuc, negℤ, natAbs, _*ℤ_}
@@ -7,6 +7,17 @@ use lib.Signed.{ltZ, leZ}
 use Rattle.ground.specs.Ranges.{inRange}
 use Rattle.numbers.specs.declared.threshold.Threshold.{Threshold}
 use Rattle.numbers.specs.declared.value.Value.{Value}
+
+-- as many digits as a threshold and a value have
+abbrev pub five : ℕ
+five = 5
+
+-- the least number of p digits, and that m is one of p digits
+abbrev pub least : ℕ → ℕ
+least p = 10 ^ (p - 1)
+
+abbrev pub OfDigits : ℕ → ℕ → Type 0
+OfDigits p m = (least p ≤ m) × (m < 10 * least p)
 
 -- "magnitude 10000 to 99999"
 abbrev pub fiveDigits : ℕ → Bool
@@ -41,17 +52,25 @@ abbrev pub tenths : ℤ → ℕ
 tenths (pos n) = 1
 tenths (negsuc n) = 10 ^ suc n
 
--- m times ten to the e is less than n times ten to the f
-unfoldable pub less : ℤ → ℤ → ℤ → ℤ → Bool
-less m e n f = ltZ (m *ℤ pos (tens e * tenths f)) (n *ℤ pos (tens f * tenths e))
+-- v is less than w: mantissas times ten to their exponents, over one denominator
+unfoldable pub less : Value → Value → Bool
+less v w =
+    ltZ (v .mantissa *ℤ pos (tens (v .exponent) * tenths (w .exponent))) (w .mantissa *ℤ pos (tens (w .exponent) * tenths (v .exponent)))
+
+-- a threshold as the value that it is, and a value without its sign
+abbrev pub asValue : Threshold → Value
+asValue t = record { mantissa = pos (t .mantissa); exponent = t .exponent }
+
+abbrev pub unsigned : Value → Threshold
+unsigned v = record { mantissa = natAbs (v .mantissa); exponent = v .exponent }
 
 -- the value, a number, is less than the threshold, one within its stops
 unfoldable pub isBelow : Value → Threshold → Bool
-isBelow v t = isNumber v && (withinStops t && less (v .mantissa) (v .exponent) (pos (t .mantissa)) (t .exponent))
+isBelow v t = isNumber v && (withinStops t && less v (asValue t))
 
 -- and so for more than the threshold
 unfoldable pub isAbove : Value → Threshold → Bool
-isAbove v t = isNumber v && (withinStops t && less (pos (t .mantissa)) (t .exponent) (v .mantissa) (v .exponent))
+isAbove v t = isNumber v && (withinStops t && less (asValue t) v)
 
 -- a magnitude with the sign of z
 abbrev pub signed : ℤ → ℕ → ℤ

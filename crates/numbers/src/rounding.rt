@@ -2,6 +2,7 @@
 ghost use mathlib.Core.Path.{_≡_};
 ghost use Prim.Native.Nat.{_≤_, _<_, _+_, _*_, _^_};
 ghost use lib.IntN.{natAbs, pos, _+ℤ_, _-ℤ_};
+ghost use Rattle.numbers.specs.Numbers.{five};
 ghost use Rattle.numbers.specs.Rounding.{climb, nearest, rounded};
 use crate::threshold::Threshold;
 
@@ -51,7 +52,7 @@ fn power(tens: i32, up: u32, down: u32) -> i32
 // over / under times ten to the tens, to five significant digits.
 pub(crate) fn rounded(over: u64, under: u64, tens: i32) -> Threshold
     requires { ⌜ (1 ≤ over) × (1 ≤ under) × (under ≤ 1000000000000) × (natAbs tens ≤ 1000) ⌝ }
-    ensures { λ r. ⌜ r ≡ rounded over under tens ⌝ }
+    ensures { λ r. ⌜ r ≡ rounded five over under tens ⌝ }
 {
     let up = climb(over, under * 10000);
     let down = climb(under, over / 100000 + 1);

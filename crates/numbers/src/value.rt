@@ -1,9 +1,9 @@
 // Signed values: their order beside thresholds, and their scaling.
 ghost use mathlib.Core.Path.{_≡_};
 ghost use mathlib.Core.Bool.{true, _&&_};
-ghost use Prim.Native.Nat.{_≤_, _<_, _*_};
+ghost use Prim.Native.Nat.{_*_};
 ghost use lib.Dec.{ltb};
-ghost use Rattle.numbers.specs.Numbers.{isFive, isZero, isNumber, tens, tenths, isBelow, isAbove};
+ghost use Rattle.numbers.specs.Numbers.{five, OfDigits, isFive, isZero, isNumber, tens, tenths, isBelow, isAbove};
 ghost use Rattle.numbers.specs.Rounding.{isUsable, product, scaledBy};
 use crate::rounding::rounded;
 use crate::signs::magnitude;
@@ -37,7 +37,7 @@ impl Ratio {
 
 // Whether m times ten to the e is less than n times ten to the f, both of five digits.
 fn smaller(m: u32, e: i32, n: u32, f: i32) -> bool
-    requires { ⌜ (10000 ≤ m) × (m ≤ 99999) × (10000 ≤ n) × (n ≤ 99999) ⌝ }
+    requires { ⌜ OfDigits five m × OfDigits five n ⌝ }
     ensures { λ r. ⌜ r ≡ ltb (m * (tens e * tenths f)) (n * (tens f * tenths e)) ⌝ }
 {
     if e < f {
@@ -109,7 +109,7 @@ impl Value {
     // The magnitude of the value times the ratio, rounded once.
     fn product(self, ratio: Ratio) -> Threshold
         requires { ⌜ isFive self && isUsable ratio ≡ true ⌝ }
-        ensures { λ r. ⌜ r ≡ product self ratio ⌝ }
+        ensures { λ r. ⌜ r ≡ product five self ratio ⌝ }
     {
         let m = magnitude(self.mantissa);
         let e = self.exponent;

@@ -5,7 +5,7 @@ use mathlib.Core.Path.{_≡_, refl}
 use mathlib.Core.List.{List, [], _∷_, map}
 use Rattle.text.specs.Text.{ascii}
 use Rattle.text.specs.Digits.{dig, bare, factorText}
-use Rattle.numbers.specs.Rounding.{climbWithin, five, power, rounded, fittedTo}
+use Rattle.numbers.specs.Rounding.{climbWithin, digits, power, rounded, fittedTo}
 use Rattle.numerals.specs.Writing.{scientific, thresholdText}
 use Rattle.numerals.specs.Runs.{lead, rest, headIs, value}
 use Rattle.numerals.specs.Whole.{numeralFault, numberOf, behindPoint, factorOf}
@@ -67,5 +67,5 @@ examples =
     ∷ []
 
 pub numeral-examples-hold : map (λ (r : Example). says (r .kind) (ascii (r .sent))) examples ≡ map (λ (r : Example). ascii (r .said)) examples
-unfolding bare scientific climbWithin five power rounded fittedTo lead rest headIs value numberOf behindPoint factorOf afterPlus afterSign powerOf composed fraction afterFraction thresholdOf
+unfolding bare scientific climbWithin digits power rounded fittedTo lead rest headIs value numberOf behindPoint factorOf afterPlus afterSign powerOf composed fraction afterFraction thresholdOf
 numeral-examples-hold = refl

@@ -15,7 +15,7 @@ use lib.IntN.{ℤ, pos, negsuc, natAbs, _-ℤ_}
 use Rattle.ground.proofs.Cases.{below}
 use Rattle.text.specs.Digits.{dig, bare, wholeText, factorText}
 use Rattle.text.proofs.Decimals.{dig-length}
-use Rattle.numbers.specs.Numbers.{withinStops}
+use Rattle.numbers.specs.Numbers.{five, OfDigits, withinStops}
 use Rattle.numbers.specs.Rounding.{fittedTo}
 use Rattle.numbers.specs.declared.threshold.Threshold.{Threshold}
 use Rattle.numbers.specs.declared.threshold.Fitted.the-variants.{Fits}
@@ -181,7 +181,7 @@ module _ (d : ℕ) (h : d < 10) (s : List ℕ) where
   unfolding thresholdOf fraction afterFraction headIs
   first-point = rw (first-plus, first-lead, first-rest)
 
-five-value : (m : ℕ) → m ≤ 99999 → value 0 (dig 1 (m / 10000) ++ dig 4 m) ≡ m
+five-value : (m : ℕ) → OfDigits five m → value 0 (dig 1 (m / 10000) ++ dig 4 m) ≡ m
 five-value m h =
     (rw append-nil at (value-dig 1 0 (m / 10000) (dig 4 m ++ [])))
     ∙ (rw append-nil at (value-dig 4 (0 * 10 ^ 1 + m / 10000 % 10 ^ 1) m [])) ∙ value-none _ ∙ omega arith
@@ -189,7 +189,7 @@ five-value m h =
 fits-round : (t : Threshold) → withinStops t ≡ true → fittedTo (t .mantissa) (t .exponent -ℤ pos 4) ≡ Fits t
 fits-round t h =
     let m = stops-digits t h in
-    let same = round-exact (t .mantissa) (t .exponent) (m .0) (m .1) in
+    let same = round-exact five (t .mantissa) m (t .exponent) in
     sym (fitted-within (t .mantissa) (t .exponent -ℤ pos 4) (λ z. omega (arith, m)) (ap withinStops same ∙ h)) ∙ ap Fits same
 
 -- for every threshold within the end stops
@@ -203,5 +203,5 @@ threshold-round t h =
     first-point d (omega arith) (dig 4 m ++ tail)
     ∙ ap₂ (composed ((48 + d) ∷ [])) (lead-dig 4 m tail refl) (rest-dig 4 m tail refl)
     ∙ ap (weighed (dig 1 (m / 10000) ++ dig 4 m) 4) (power-round e (omega (arith, stops-near t h)))
-    ∙ ap (λ (n : ℕ). fittedNumeral (fittedTo n (e -ℤ pos 4))) (five-value m (stops-digits t h .1))
+    ∙ ap (λ (n : ℕ). fittedNumeral (fittedTo n (e -ℤ pos 4))) (five-value m (stops-digits t h))
     ∙ ap fittedNumeral (fits-round t h)

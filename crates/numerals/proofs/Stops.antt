@@ -8,7 +8,7 @@ use native.Mathlib.Omega.{arith}
 use lib.ListN.{length, drop}
 use lib.IntN.{ℤ, pos, _-ℤ_}
 use Rattle.ground.proofs.Cases.{cond-cases, in-range, never}
-use Rattle.numbers.specs.Numbers.{withinStops}
+use Rattle.numbers.specs.Numbers.{five, withinStops}
 use Rattle.numbers.specs.Rounding.{fittedTo, Nearest}
 use Rattle.numbers.specs.declared.threshold.Threshold.{Threshold}
 use Rattle.numbers.specs.declared.threshold.Fitted.{Fitted}
@@ -57,7 +57,7 @@ read-within s t q = let r = sent s t q in fitted-stops (value 0 (wholePart s ++ 
 
 -- and is the five-digit number nearest to the one that was sent, a tie going upwards
 pub read-nearest : (s : List ℕ) (t : Threshold) (q : thresholdOf s ≡ Within t)
-    → Nearest (value 0 (wholePart s ++ fractionPart s)) 1 (sent s t q .e -ℤ pos (length (fractionPart s))) (t .mantissa) (t .exponent)
+    → Nearest five (value 0 (wholePart s ++ fractionPart s)) 1 (sent s t q .e -ℤ pos (length (fractionPart s))) t
 read-nearest s t q =
     let r = sent s t q in
     let digits = wholePart s ++ fractionPart s in

@@ -26,13 +26,13 @@ cast-result : tie.Need-cast-result
 cast-result c = let a = c .before .args in omega (arith, few (a .n) (a .d) (omega arith) (omega arith))
 
 returns : tie.Need-returns
-returns c = nearest-up _ _ (omega arith) (c .if1 .taken)
+returns c = let a = c .before .args in nearest-up (a .n) (a .d) (omega arith) (omega (arith, c .if1 .taken))
 
 cast-result-2 : tie.Need-cast-result-2
 cast-result-2 c = let a = c .before .args in omega (arith, few (a .n) (a .d) (omega arith) (omega arith))
 
 returns-2 : tie.Need-returns-2
-returns-2 c = nearest-stay _ _ (omega arith) (c .if1 .left)
+returns-2 c = let a = c .before .args in nearest-stay (a .n) (a .d) (omega arith) (omega (arith, c .if1 .left))
 
 pub nearest-spec : {M : Type 1} → statement M
 nearest-spec =

@@ -3,7 +3,7 @@ use mathlib.Core.Path.{_≡_, sym, ap, _∙_}
 use mir.Facts.{toZ-ofZ}
 use borrow.Author.Needs.{needs}
 use native.Mathlib.Omega.{arith}
-use Rattle.numbers.specs.Numbers.{withinStops}
+use Rattle.numbers.specs.Numbers.{five, withinStops}
 use Rattle.numbers.specs.Rounding.{rounded}
 use Rattle.numbers.specs.declared.threshold.Fitted.the-variants.{Fits}
 use Rattle.numbers.proofs.Signed.{between-near}
@@ -11,8 +11,8 @@ use Rattle.numbers.proofs.Stops.{fitted-zero, fitted-within, fitted-out
 use Rattle.numbers.proofs.threshold.Threshold.fitted.Statement.{statement}
 use Rattle.numbers.proofs.threshold.Threshold.fitted.Tie as tie
 
-is-rounded : (c : tie.After-rounded) → c .rounded .result ≡ rounded (c .before .before .before .args .n) 1 (c .before .before .before .args .x)
-is-rounded c = let s = c .before .before .before in c .rounded .ensures ∙ ap (rounded (s .args .n) 1) (toZ-ofZ (s .fits .x))
+is-rounded : (c : tie.After-rounded) → c .rounded .result ≡ rounded five (c .before .before .before .args .n) 1 (c .before .before .before .args .x)
+is-rounded c = let s = c .before .before .before in c .rounded .ensures ∙ ap (rounded five (s .args .n) 1) (toZ-ofZ (s .fits .x))
 
 returns : tie.Need-returns
 returns c = fitted-zero _ _ (c .if1 .taken)

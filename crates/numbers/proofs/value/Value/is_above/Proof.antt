@@ -24,7 +24,7 @@ smaller-requires c κs =
     let d = c .before .before in
     let b = d .before .before in
     let p = positive-digits (beside (b .before)) (b .if1 .taken) (d .if2 .left) in
-    (p .2, p .3, p .0, p .1)
+    (p .1, p .0)
 
 returns-2 : tie.Need-returns-2
 returns-2 c =

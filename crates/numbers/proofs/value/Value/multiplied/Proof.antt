@@ -6,9 +6,9 @@ use mir.Val.{SFits}
 use mir.Facts.{toZ-ofZ}
 use borrow.Author.Needs.{needs}
 use native.Mathlib.Omega.{arith}
-use Rattle.numbers.specs.Numbers.{isFive}
+use Rattle.numbers.specs.Numbers.{five, isFive}
 use Rattle.numbers.specs.Rounding.{isUsable}
-use Rattle.numbers.proofs.Scaling.{product-five, scaled-is, scaled-not}
+use Rattle.numbers.proofs.Scaling.{product-digits, scaled-is, scaled-not}
 use Rattle.numbers.proofs.value.Value.multiplied.Statement.{statement}
 use Rattle.numbers.proofs.value.Value.multiplied.Tie as tie
 
@@ -28,7 +28,7 @@ with-sign-requires : tie.Need-with-sign-requires
 with-sign-requires c κs =
     let b = c .before .before in
     let a = b .before .before .before .args in
-    rw (c .product .ensures) (omega (arith, product-five (a .self) (a .ratio) (sym (scalable (b .before)) ∙ b .if1 .taken)))
+    rw (c .product .ensures) (omega (arith, product-digits (a .self) (a .ratio) (sym (scalable (b .before)) ∙ b .if1 .taken) five (omega arith)))
 
 returns : tie.Need-returns
 returns c =

@@ -7,8 +7,9 @@ use mir.Val.{SFits}
 use mir.Facts.{toZ-ofZ}
 use borrow.Author.Needs.{needs}
 use native.Mathlib.Omega.{arith}
+use Rattle.numbers.specs.Numbers.{five}
 use Rattle.numbers.specs.Rounding.{rounded}
-use Rattle.numbers.proofs.Scaling.{scaled-range, exponent-range}
+use Rattle.numbers.proofs.Scaling.{value-range, product-rounds}
 use Rattle.numbers.proofs.Signed.{small, abs-minus}
 use Rattle.numbers.proofs.value.Value.product.Statement.{statement}
 use Rattle.numbers.proofs.value.Value.product.Tie as tie
@@ -25,7 +26,7 @@ size c =
 near : (c : tie.After-magnitude) → natAbs (c .before .before .args .self .exponent -ℤ pos 4) ≤ 1000
 near c =
     let a = c .before .before .args in
-    omega (arith, abs-minus (a .self .exponent) (pos 4), exponent-range (a .self) (a .ratio) (c .before .before .pre))
+    omega (arith, abs-minus (a .self .exponent) (pos 4), value-range (a .self) (a .ratio) (c .before .before .pre) .1)
 
 lower : (c : tie.After-magnitude) → SFits w32 (c .before .before .args .self .exponent -ℤ pos 4)
 lower c = small _ (omega (arith, near c))
@@ -37,7 +38,7 @@ cast-rounded : tie.Need-cast-rounded
 cast-rounded c = search needs
 
 mul-rounded : tie.Need-mul-rounded
-mul-rounded c = let a = c .before .before .before .args in rw (size (c .before)) (record { fits = omega (arith, scaled-range (a .self) (a .ratio) (c .before .before .before .pre)) })
+mul-rounded c = let a = c .before .before .before .args in rw (size (c .before)) (record { fits = omega (arith, product-rounds (a .self) (a .ratio) (c .before .before .before .pre) five (omega arith)) })
 
 sub-rounded : tie.Need-sub-rounded
 sub-rounded c = rw (toZ-ofZ (held (c .before))) (lower (c .before))
@@ -45,8 +46,8 @@ sub-rounded c = rw (toZ-ofZ (held (c .before))) (lower (c .before))
 rounded-requires : tie.Need-rounded-requires
 rounded-requires c κs =
     let a = c .before .before .before .args in
-    let r = scaled-range (a .self) (a .ratio) (c .before .before .before .pre) in
-    (rw (size (c .before)) (r .0), r .2, r .3, rw (toZ-ofZ (held (c .before)), toZ-ofZ (lower (c .before))) (near (c .before)))
+    let r = product-rounds (a .self) (a .ratio) (c .before .before .before .pre) five (omega arith) in
+    (rw (size (c .before)) (r .over .0), r .under .0, r .under .1, rw (toZ-ofZ (held (c .before)), toZ-ofZ (lower (c .before))) (near (c .before)))
 
 returns : tie.Need-returns
 returns c =

@@ -37,6 +37,13 @@ cond-cases P false x y f g = g refl
 pub in-range : (low high m : ℕ) → inRange low high m ≡ true → (low ≤ m) × (m ≤ high)
 in-range low high m h = let b = and-eq-true-iff (leb low m) (leb m high) .0 h in (leb-true low m (b .0), leb-true m high (b .1))
 
+-- one limit alone, as a rule by which `omega` reads the test whatever its limits are; the upper one behind another test
+pub range-low : (low high m : ℕ) → inRange low high m ≡ true → low ≤ m
+range-low low high m h = in-range low high m h .0
+
+pub range-high : (low high m : ℕ) (t : Bool) → t && inRange low high m ≡ true → m ≤ high
+range-high low high m t h = in-range low high m (and-eq-true-iff t (inRange low high m) .0 h .1) .1
+
 -- two tests, one of which holds, or neither
 pub either : {A : Type 0} (s t : Bool) (x y : A) → not s && not t ≡ false → cond s x (cond t x y) ≡ x
 either true t x y h = refl

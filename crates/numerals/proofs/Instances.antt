@@ -3,10 +3,11 @@ use mathlib.Core.Path.{_≡_, refl}
 use mathlib.Core.List.{List, [], _∷_, map}
 use lib.IntN.{pos, negsuc}
 use Rattle.text.specs.Text.{ascii}
+use Rattle.numbers.specs.declared.threshold.Threshold.{Threshold}
 use Rattle.numbers.specs.declared.value.Value.{Value}
 use Rattle.numerals.specs.Runs.{lead, rest, headIs, value}
 use Rattle.numerals.specs.Whole.{numberOf, behindPoint, factorOf}
-use Rattle.numerals.specs.Writing.{scientific, valueText}
+use Rattle.numerals.specs.Writing.{scientific, thresholdText, valueText}
 use Rattle.numerals.specs.declared.whole.Numeral.the-variants.{Number, NoNumber}
 
 -- tenths, hundredths and thousandths; and a comma, which is no point
@@ -21,3 +22,11 @@ values = record { mantissa = pos 0; exponent = pos 0 } ∷ record { mantissa = n
 pub value-texts : map valueText values ≡ ascii "+0.0000E+00" ∷ ascii "-6.7890E-12" ∷ []
 unfolding scientific
 value-texts = refl
+
+-- what is no number: a mantissa of six digits and an exponent of three, one of four, and zero beside an exponent
+abbrev outside : List Threshold
+outside = record { mantissa = 123456; exponent = pos 120 } ∷ record { mantissa = 999; exponent = negsuc 99 } ∷ record { mantissa = 0; exponent = pos 5 } ∷ []
+
+pub last-digits : map thresholdText outside ≡ ascii "2.3456E+20" ∷ ascii "0.0999E-00" ∷ ascii "0.0000E+05" ∷ []
+unfolding scientific
+last-digits = refl

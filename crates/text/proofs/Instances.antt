@@ -14,8 +14,8 @@ digits-are = refl
 pub digit-places : map (λ (k : ℕ). 48 + 4718 / 10 ^ k % 10) (0 ∷ 1 ∷ 2 ∷ 3 ∷ 4 ∷ 10 ∷ []) ≡ ascii "817400"
 digit-places = refl
 
--- "factors as 1.000"
-pub factor-thousandths : map factorText (1000 ∷ 10234 ∷ []) ≡ ascii "1.000" ∷ ascii "10.234" ∷ []
+-- "factors as 1.000"; all digits of one that no field takes
+pub factor-thousandths : map factorText (1000 ∷ 10234 ∷ 123456 ∷ []) ≡ ascii "1.000" ∷ ascii "10.234" ∷ ascii "123.456" ∷ []
 unfolding bare
 factor-thousandths = refl
 

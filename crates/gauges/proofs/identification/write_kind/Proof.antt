@@ -25,13 +25,13 @@ array-read-append-2 : tie.Need-array-read-append-2
 array-read-append-2 c = search needs
 
 sub-append : tie.Need-sub-append
-sub-append c = in-order (c .before .before .before .args .kind) (c .before .if1 .taken)
+sub-append c = search (in-order, needs)
 
 part-append-start : tie.Need-part-append-start
-part-append-start c = in-order (c .before .before .before .before .args .kind) (c .before .before .if1 .taken)
+part-append-start c = search (in-order, needs)
 
 part-append-end : tie.Need-part-append-end
-part-append-end c = in-names (c .before .before .before .before .args .kind) (c .before .before .if1 .taken)
+part-append-end c = search (in-names, needs)
 
 append-requires : tie.Need-append-requires
 append-requires c κs = search needs

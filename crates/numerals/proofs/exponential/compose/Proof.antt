@@ -2,8 +2,7 @@
 use Prim.Native.Nat.{ℕ, _+_, _-_, _≤_, _<_}
 use mathlib.Core.Path.{_≡_, sym, ap, ap₂, _∙_, subst}
 use mathlib.Core.List.{_++_}
-use mathlib.Core.Bool.{_&&_}
-use lib.Dec.{leb}
+use mathlib.Core.Bool.{true}
 use lib.ListN.{length, drop}
 use lib.IntN.{ℤ, pos, natAbs, _-ℤ_}
 use mir.Syntax.{w32}
@@ -11,6 +10,7 @@ use mir.Val.{toZ, ofZ}
 use mir.Facts.{toZ-ofZ, toZ-pos}
 use borrow.Author.Needs.{needs}
 use native.Mathlib.Omega.{arith}
+use Rattle.ground.specs.Ranges.{inRange}
 use Rattle.ground.proofs.Cases.{in-range}
 use Rattle.numbers.specs.Rounding.{fittedTo}
 use Rattle.numbers.proofs.Signed.{small, abs-minus}
@@ -30,15 +30,16 @@ module _ (e : ℤ) (k : ℕ) (h : natAbs e < 100) (l : k ≤ 12) where
   moved-is : toZ w32 (ofZ w32 (toZ w32 (ofZ w32 e) -ℤ toZ w32 k)) ≡ e -ℤ pos k
   moved-is = rw moved-read (toZ-ofZ (small (e -ℤ pos k) (omega (arith, abs-minus e (pos k)))))
 
--- the code's test is the definition's
-test : (c : tie.After-shared-slice-known) → let a = c .before .args in let n = a .p - a .a + (a .q - a .b) in
-    leb 1 n && leb n 12 ≡ lengthIn 1 12 (part (a .a) (a .p) (a .s .now) ++ part (a .b) (a .q) (a .s .now))
-test c =
-    let a = c .before .args in
-    ap (λ (n : ℕ). leb 1 n && leb n 12) (sym (count-runs (a .s .now) (a .a) (a .p) (a .b) (a .q) (omega arith) (omega arith) (omega arith) (omega arith)))
+-- the digits that the code lets in are those that the definition does
+count : (c : tie.After-shared-slice-known) → let a = c .before .args in
+    length (part (a .a) (a .p) (a .s .now) ++ part (a .b) (a .q) (a .s .now)) ≡ a .p - a .a + (a .q - a .b)
+count c = let a = c .before .args in count-runs (a .s .now) (a .a) (a .p) (a .b) (a .q) (omega arith) (omega arith) (omega arith) (omega arith)
+
+let-in : (c : tie.Then1) → let a = c .before .before .args in lengthIn 1 12 (part (a .a) (a .p) (a .s .now) ++ part (a .b) (a .q) (a .s .now)) ≡ true
+let-in c = ap (inRange 1 12) (count (c .before)) ∙ c .if1 .taken
 
 few : (c : tie.Then1) → let a = c .before .before .args in a .p - a .a + (a .q - a .b) ≤ 12
-few c = let a = c .before .before .args in in-range 1 12 (a .p - a .a + (a .q - a .b)) (c .if1 .taken) .1
+few c = in-range 1 12 _ (ap (inRange 1 12) (sym (count (c .before))) ∙ let-in c) .1
 
 two : (c : tie.After-known-told) → natAbs (c .before .t .given .0 .0) < 100
 two c =
@@ -87,7 +88,7 @@ returns c =
     let whole = part (a .a) (a .p) (a .s .now) in
     let fraction = part (a .b) (a .q) (a .s .now) in
     ap (weighed (whole ++ fraction) (length fraction)) (sym (c .enum-told .given .1) ∙ c .before .before .power-at .ensures)
-    ∙ composed-taken whole fraction (drop (a .q) (a .s .now)) (sym (test (b .before)) ∙ b .if1 .taken)
+    ∙ composed-taken whole fraction (drop (a .q) (a .s .now)) (let-in b)
 
 returns-2 : tie.Need-returns-2
 returns-2 c =
@@ -103,12 +104,12 @@ returns-2 c =
     ∙ ap₂ (λ (n : ℕ) (x : ℤ). fittedNumeral (fittedTo n x)) (c .before .gathered .ensures)
     (moved-is e (a .q - a .b) (two u) (omega (arith, few b)) ∙ ap (λ (j : ℕ). e -ℤ pos j) (sym behind))
     ∙ ap (weighed (whole ++ fraction) (length fraction)) (sym (u .before .t .given .1) ∙ u .before .before .before .power-at .ensures)
-    ∙ composed-taken whole fraction (drop (a .q) s) (sym (test (b .before)) ∙ b .if1 .taken)
+    ∙ composed-taken whole fraction (drop (a .q) s) (let-in b)
 
 returns-3 : tie.Need-returns-3
 returns-3 c =
     let a = c .before .before .args in
-    composed-left (part (a .a) (a .p) (a .s .now)) (part (a .b) (a .q) (a .s .now)) (drop (a .q) (a .s .now)) (sym (test (c .before)) ∙ c .if1 .left)
+    composed-left (part (a .a) (a .p) (a .s .now)) (part (a .b) (a .q) (a .s .now)) (drop (a .q) (a .s .now)) (ap (inRange 1 12) (count (c .before)) ∙ c .if1 .left)
 
 pub compose-spec : {M : Type 1} → statement M
 compose-spec =

@@ -1,12 +1,12 @@
 -- `whole::number`: its test is the definition's, and a number of at most three digits fits.
 use Prim.Native.Nat.{_-_, _≤_}
 use mathlib.Core.Path.{_≡_, sym, ap, ap₂, _∙_}
-use mathlib.Core.Bool.{_&&_, and-eq-true-iff}
+use mathlib.Core.Bool.{_&&_}
 use lib.Dec.{leb, eqb}
 use lib.ListN.{length, drop}
 use borrow.Author.Needs.{needs}
 use native.Mathlib.Omega.{arith}
-use Rattle.ground.proofs.Cases.{in-range}
+use Rattle.ground.proofs.Cases.{range-high}
 use Rattle.numerals.specs.Runs.{lead, rest, lengthIn, value}
 use Rattle.numerals.specs.declared.whole.Numeral.the-variants.{Number}
 use Rattle.numerals.proofs.DigitRuns.{run-in, run-lead, run-all, bound-below}
@@ -22,10 +22,7 @@ test c =
     ap₂ (λ t n. t && (leb 1 n && leb n (a .most))) (run-all (a .s .now) (a .at) (c .run .result) (omega arith) (c .run .ensures)) k
 
 few : (c : tie.Then1) → (c .before .run .result - c .before .before .before .args .at ≤ 3)
-few c =
-    let a = c .before .before .before .args in
-    let e = c .before .run .result in
-    omega (arith, in-range 1 (a .most) (e - a .at) (and-eq-true-iff (eqb e (length (a .s .now))) (leb 1 (e - a .at) && leb (e - a .at) (a .most)) .0 (c .if1 .taken) .1))
+few c = omega (arith, range-high)
 
 run-requires : tie.Need-run-requires
 run-requires c κs = search needs

@@ -1,19 +1,19 @@
 -- A range that holds the character leaves its difference; neither range leaves no digit.
 use native.Mathlib.Omega.{arith}
-use Rattle.ground.proofs.Cases.{in-range}
+use Rattle.ground.proofs.Cases.{range-low}
 use Rattle.text.specs.Hex.{valueOf}
 use Rattle.text.proofs.hex.value_of.Statement.{statement}
 use Rattle.text.proofs.hex.value_of.Tie as tie
 
 sub-result : tie.Need-sub-result
-sub-result c = omega (arith, in-range 48 57 (c .before .args .digit) (c .if1 .taken) .0)
+sub-result c = omega (arith, range-low)
 
 returns : tie.Need-returns
 unfolding valueOf
 returns c = rw (c .if1 .taken)
 
 sub-result-2 : tie.Need-sub-result-2
-sub-result-2 c = omega (arith, in-range 65 70 (c .before .before .args .digit) (c .if2 .taken) .0)
+sub-result-2 c = omega (arith, range-low)
 
 returns-2 : tie.Need-returns-2
 unfolding valueOf

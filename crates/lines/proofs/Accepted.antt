@@ -3,33 +3,33 @@ use Prim.Native.Nat.{ℕ, suc, _≤_, _<_}
 use Prim.Native.Char.{code}
 use mathlib.Core.Path.{_≡_, refl, ap, ap₂, _∙_}
 use mathlib.Core.List.{List, [], _∷_, _++_, map}
-use mathlib.Core.Bool.{Bool, true, not, _&&_, and-eq-true-iff}
+use mathlib.Core.Bool.{Bool, true, not, and-eq-true-iff}
 use native.Mathlib.Omega.{arith}
-use borrow.Author.Tests.{ltb-true, lt-ltb, eq-eqb, not-true}
-use lib.ListN.{length, getD, take}
-use lib.Dec.{eqb, ltb}
+use borrow.Author.Tests.{ltb-true, eq-eqb, not-true}
+use lib.ListN.{length, take}
+use lib.Dec.{eqb}
 use Rattle.ground.specs.Members.{every, Each}
+use Rattle.ground.proofs.Cases.{never}
 use Rattle.ground.proofs.Members.{each-map, each-both, every-each, map-each}
 use Rattle.numbers.specs.declared.threshold.Threshold.{Threshold}
-use Rattle.settings.specs.Models.{channels, defaults}
-use Rattle.settings.specs.Mnemonics.{sheet, known, name, same, found, recognised, channelOf}
-use Rattle.settings.specs.Kinds.{kinds, storedKinds}
-use Rattle.settings.specs.Rows.{plain, row, listed, cells}
-use Rattle.settings.specs.Limits.{fits, within}
+use Rattle.settings.specs.Cells.{listed, rowOf}
+use Rattle.settings.specs.Table.{switchingEntry, storedEntry, settingEntry, kinds}
+use Rattle.settings.specs.Mnemonics.{held, sheet, setting, known, name, same, found, recognised, isThere}
+use Rattle.settings.specs.Rows.{row, cells}
+use Rattle.settings.specs.Limits.{fits, cellsFit, within}
 use Rattle.settings.specs.declared.model.Model.{Model}
-use Rattle.settings.specs.declared.model.Model.the-variants.{Tpg361, Tpg362}
 use Rattle.settings.specs.declared.mnemonic.Setting.{Setting}
 use Rattle.settings.specs.declared.mnemonic.Mnemonic.{Mnemonic}
-use Rattle.settings.specs.declared.mnemonic.Mnemonic.the-variants.{OfSetting}
+use Rattle.settings.specs.declared.mnemonic.Named.{Named}
 use Rattle.settings.specs.declared.mnemonic.Named.the-variants.{Known}
-use Rattle.settings.specs.declared.kinds.Kind.{Kind}
-use Rattle.settings.specs.declared.kinds.Kind.the-variants.{OfThreshold}
+use Rattle.settings.specs.declared.table.Kind.{Kind}
 use Rattle.settings.specs.declared.Settings.{Settings}
-use Rattle.settings.proofs.Places.{row-places}
-use Rattle.settings.proofs.Storing.{Holding}
-use Rattle.settings.proofs.Sheets.{sheet-holding, on-sheet, few, within-rows, sheet-each}
+use Rattle.settings.proofs.Every.{models, every-model, tested}
+use Rattle.settings.proofs.Tabled.{few, few-kinds, count-kinds}
+use Rattle.settings.proofs.Sheets.{held-each, OnSheet, sheet-holds, on-sheet, within-rows, sheet-each}
+use Rattle.settings.proofs.Answerable.{first-there}
 use Rattle.lines.specs.Splitting.{fields, joined}
-use Rattle.lines.specs.Judging.{fieldsRead, formed, valued, cellOf, rowOf, judgedFields, withFields, parted, judged}
+use Rattle.lines.specs.Judging.{fieldsRead, formed, valued, cellOf, judgedFields, withFields, parted, judged}
 use Rattle.lines.specs.Sheets.{sheetLine}
 use Rattle.lines.specs.Replies.{texts, settingText}
 use Rattle.lines.specs.declared.verdict.Field.{Field}
@@ -105,16 +105,16 @@ pub record Spelt (model : Model) (m : Mnemonic) : Type 0 where
 
 -- the model has it, it takes fields, and they read back
 record Taking (model : Model) (m : Mnemonic) : Type 0 where
-  there : channelOf m < channels model
+  there : isThere model m ≡ true
   some : 0 < length (kinds model m)
   sounds : Each (λ k. sound k ≡ true) (kinds model m)
 
 module _ (model : Model) (m : Mnemonic) (sp : Spelt model m) where
   -- a line of the name and fields is judged by the fields
-  pub line-fields : (fs : List (List ℕ)) → channelOf m < channels model → Each Plain fs → judged model (joined (name m ∷ fs)) ≡ withFields model m fs
+  pub line-fields : (fs : List (List ℕ)) → isThere model m ≡ true → Each Plain fs → judged model (joined (name m ∷ fs)) ≡ withFields model m fs
   line-fields fs h p =
       judged-parts model (joined (name m ∷ fs)) ∙ ap (parted model) (fields-joined (name m) fs (sp .plain) p)
-      ∙ rw (sp .back, lt-ltb (channelOf m) (channels model) h)
+      ∙ rw (sp .back, h)
 
   with-texts : {ks : List Kind} {cs : List Threshold} → kinds model m ≡ ks → Taking model m → AllFit ks cs
       → judged model (name m ++ (code "," ∷ joined (texts ks cs))) ≡ Writes m (rowOf cs)
@@ -129,15 +129,18 @@ module _ (model : Model) (m : Mnemonic) (sp : Spelt model m) where
 -- ---- by computing over the tables
 
 pub all-found : (model : Model) → Each (λ m. recognised model (name m) ≡ Known m) (known model)
-unfolding known recognised found same
-all-found model = map-each (λ m. recognised model (name m)) Known (known model) refl
+unfolding known sheet recognised found same switchingEntry storedEntry
+all-found model =
+    let f : Model → List Named = λ m. map (λ n. recognised m (name n)) (known m) in
+    let g : Model → List Named = λ m. map Known (known m) in
+    map-each (λ n. recognised model (name n)) Known (known model) (every-model (λ m. f m ≡ g m) (map-each f g models refl) model)
 
 commaless : List ℕ → Bool
 commaless s = every (λ b. not (eqb b (code ","))) s
 
 all-commaless : (model : Model) → every (λ m. commaless (name m)) (known model) ≡ true
-unfolding known every commaless
-all-commaless model = refl
+unfolding known sheet every commaless switchingEntry storedEntry
+all-commaless = tested (λ model. every (λ m. commaless (name m)) (known model)) refl
 
 pub all-spelt : (model : Model) → Each (Spelt model) (known model)
 unfolding commaless
@@ -146,53 +149,41 @@ all-spelt model =
     (λ m p q. record { plain = each-map _ _ (λ b. not-true (eqb b (code ","))) (name m) (every-each _ (name m) p); back = q }) (known model)
     (every-each (λ m. commaless (name m)) (known model) (all-commaless model)) (all-found model)
 
-taking : Model → Mnemonic → Bool
-taking model m = ltb (channelOf m) (channels model) && (ltb 0 (length (kinds model m)) && every sound (kinds model m))
-
-sheet-takes : (model : Model) → every (λ x. taking model (OfSetting x)) (sheet model) ≡ true
-unfolding taking every storedKinds
-sheet-takes Tpg361 = refl
-sheet-takes Tpg362 = refl
-
-taking-by : (model : Model) (m : Mnemonic) → taking model m ≡ true → Taking model m
-unfolding taking
-taking-by model m t =
-    let a = and-eq-true-iff (ltb (channelOf m) (channels model)) _ .0 t in
-    let b = and-eq-true-iff (ltb 0 (length (kinds model m))) _ .0 (a .1) in
-    record { there = ltb-true _ _ (a .0); some = ltb-true _ _ (b .0); sounds = every-each sound (kinds model m) (b .1) }
+all-sound : (model : Model) → every (λ x. every sound (kinds model (setting x))) held ≡ true
+unfolding every switchingEntry storedEntry
+all-sound = tested (λ model. every (λ x. every sound (kinds model (setting x))) held) refl
 
 -- ---- the settings of the sheet
 
-sheet-spelt : (model : Model) → Each (λ x. Spelt model (OfSetting x)) (sheet model)
-sheet-spelt model = sheet-each (Spelt model) model (all-spelt model)
+sheet-takes : (model : Model) (x : Setting) → OnSheet model x → Taking model (setting x)
+sheet-takes model x o =
+    let ks = kinds model (setting x) in
+    record {
+      there = first-there model;
+      some = rw (count-kinds (settingEntry x .fields model) (few model (setting x))) (ltb-true 0 (settingEntry x .fields model .count) (o .taken));
+      sounds = every-each sound ks (held-each (λ y. every sound (kinds model (setting y)) ≡ true) (every-each (λ y. every sound (kinds model (setting y))) held (all-sound model)) x (o .holding));
+    }
 
-pub accepted : (model : Model) (x : Setting) → Holding x → (cs : List Threshold) → AllFit (kinds model (OfSetting x)) cs
-    → judged model (name (OfSetting x) ++ (code "," ∷ joined (texts (kinds model (OfSetting x)) cs))) ≡ Writes (OfSetting x) (rowOf cs)
-accepted model x h cs =
-    let sp = on-sheet (λ x. Spelt model (OfSetting x)) model (sheet-spelt model) x h in
-    let t = on-sheet (λ x. taking model (OfSetting x) ≡ true) model (every-each (λ x. taking model (OfSetting x)) (sheet model) (sheet-takes model)) x h in
-    with-texts model (OfSetting x) sp refl (taking-by model (OfSetting x) t)
+pub accepted : (model : Model) (x : Setting) → OnSheet model x → (cs : List Threshold) → AllFit (kinds model (setting x)) cs
+    → judged model (name (setting x) ++ (code "," ∷ joined (texts (kinds model (setting x)) cs))) ≡ Writes (setting x) (rowOf cs)
+accepted model x o cs =
+    with-texts model (setting x) (on-sheet (λ x. Spelt model (setting x)) model (sheet-each (Spelt model) model (all-spelt model)) o) refl (sheet-takes model x o)
 
 -- ---- the sheet of settings within their limits
 
--- cells that fit at each place
-fit-places : (ks : List Kind) (cs : List Threshold) → length ks ≤ length cs
-    → ((i : ℕ) → i < length ks → fits (getD ks i OfThreshold) (getD cs i (plain 0)) ≡ true) → AllFit ks (take (length ks) cs)
-fit-places [] cs h f = none
-fit-places (k ∷ ks) [] h f = absurd (omega arith)
-fit-places (k ∷ ks) (c ∷ cs) h f = next (f 0 (omega arith)) (fit-places ks cs (omega arith) (λ i l. f (suc i) (omega arith)))
-
-pub cells-fit : (model : Model) (s : Settings) → within model s ≡ true → (x : Setting) → Holding x → AllFit (kinds model (OfSetting x)) (cells model s x)
-cells-fit model s w x h =
-    let ks = kinds model (OfSetting x) in
-    let r = row s x in
-    let d = row (defaults model) x in
-    fit-places ks (listed r) (few model x)
-    (λ i l. rw (lt-ltb i (length ks) l) at (row-places ks r d (within-rows model s w x h) i (omega (arith, few model x))))
+-- cells within their limits fit their fields
+fit-front : (ks : List Kind) (cs ds : List Threshold) → length ks ≤ length cs → cellsFit ks cs ds ≡ true → AllFit ks (take (length ks) cs)
+unfolding cellsFit
+fit-front [] cs ds h e = none
+fit-front (k ∷ ks) [] ds h e = absurd (omega arith)
+fit-front (k ∷ ks) (c ∷ cs) [] h e = never (cc)
+fit-front (k ∷ ks) (c ∷ cs) (d ∷ ds) h e = let b = and-eq-true-iff (fits k c) (cellsFit ks cs ds) .0 e in next (b .0) (fit-front ks cs ds (omega arith) (b .1))
 
 pub sheet-accepted : (model : Model) (s : Settings) → within model s ≡ true
-    → Each (λ x. judged model (sheetLine model s x) ≡ Writes (OfSetting x) (rowOf (cells model s x))) (sheet model)
+    → Each (λ x. judged model (sheetLine model s x) ≡ Writes (setting x) (rowOf (cells model s x))) (sheet model)
 unfolding settingText
 sheet-accepted model s w =
-    each-map Holding (λ x. judged model (sheetLine model s x) ≡ Writes (OfSetting x) (rowOf (cells model s x)))
-    (λ x h. accepted model x h (cells model s x) (cells-fit model s w x h)) (sheet model) (sheet-holding model)
+    each-map (OnSheet model) (λ x. judged model (sheetLine model s x) ≡ Writes (setting x) (rowOf (cells model s x)))
+    (λ x o. accepted model x o (cells model s x)
+    (fit-front (kinds model (setting x)) (listed (row s x)) (listed (settingEntry x .default model)) (few-kinds (settingEntry x .fields model)) (within-rows model s w x (o .holding))))
+    (sheet model) (sheet-holds model)

@@ -8,18 +8,20 @@ use lib.ListN.{take, drop}
 use Rattle.ground.specs.Members.{Each}
 use Rattle.ground.proofs.Members.{each-both, each-take, each-drop, map-each}
 use Rattle.ground.proofs.Ranges.{upto-three}
-use Rattle.settings.specs.Mnemonics.{sheet}
-use Rattle.settings.specs.Rows.{row, listed, fieldCount, cells}
+use Rattle.settings.specs.Cells.{listed, rowOf}
+use Rattle.settings.specs.Table.{settingEntry}
+use Rattle.settings.specs.Mnemonics.{sheet, setting}
+use Rattle.settings.specs.Rows.{row, fieldCount, cells}
 use Rattle.settings.specs.Limits.{within, SettingsShaped}
 use Rattle.settings.specs.declared.model.Model.{Model}
 use Rattle.settings.specs.declared.mnemonic.Setting.{Setting}
-use Rattle.settings.specs.declared.mnemonic.Mnemonic.the-variants.{OfSetting}
 use Rattle.settings.specs.declared.rows.Row.{Row}
 use Rattle.settings.specs.declared.Settings.{Settings}
+use Rattle.settings.proofs.Tabled.{few-kinds}
 use Rattle.settings.proofs.Storing.{Holding, mixed-front, stored-row, stored-others, stored-shaped}
-use Rattle.settings.proofs.Sheets.{sheet-holding, on-sheet, Distinct, sheet-distinct, distinct-cut, distinct-take, few, cells-row, sheet-decides}
+use Rattle.settings.proofs.Sheets.{OnSheet, sheet-holds, on-sheet, Distinct, sheet-distinct, distinct-cut, distinct-take, cells-row, sheet-decides}
 use Rattle.settings.proofs.StoredLimits.{fitting-canon}
-use Rattle.lines.specs.Judging.{rowOf, judged, effect}
+use Rattle.lines.specs.Judging.{judged, effect}
 use Rattle.lines.specs.Replies.{settingText}
 use Rattle.lines.specs.declared.verdict.Verdict.the-variants.{Writes}
 use Rattle.lines.specs.Sheets.{sheetLine, settingsAfter}
@@ -50,42 +52,42 @@ module _ (model : Model) (a : Settings) where
   sent x = rowOf (cells model a x)
 
   sent-cells : (x : Setting) → take (fieldCount model x) (listed (sent x)) ≡ cells model a x
-  sent-cells x = row-cells (fieldCount model x) (row a x) (few model x)
+  sent-cells x = row-cells (fieldCount model x) (row a x) (few-kinds (settingEntry x .fields model))
 
   -- the settings b after that line
   abbrev next : Settings → Setting → Settings
   next b x = effect model b (judged model (sheetLine model a x))
 
   module _ (wa : within model a ≡ true) where
-    line-accepted : {x : Setting} → Holding x → judged model (sheetLine model a x) ≡ Writes (OfSetting x) (sent x)
-    line-accepted {x} = on-sheet (λ x. judged model (sheetLine model a x) ≡ Writes (OfSetting x) (sent x)) model (sheet-accepted model a wa) x
+    line-accepted : {x : Setting} → OnSheet model x → judged model (sheetLine model a x) ≡ Writes (setting x) (sent x)
+    line-accepted = on-sheet (λ x. judged model (sheetLine model a x) ≡ Writes (setting x) (sent x)) model (sheet-accepted model a wa)
 
-    module _ (b : Settings) {x : Setting} (h : Holding x) where
+    module _ (b : Settings) {x : Setting} (h : OnSheet model x) where
       line-shaped : SettingsShaped b → SettingsShaped (next b x)
-      line-shaped sh = rw (line-accepted h) (stored-shaped model b (sent x) (OfSetting x) sh)
+      line-shaped sh = rw (line-accepted h) (stored-shaped model b (sent x) (setting x) sh)
 
       own-named : SettingsShaped b → cells model (next b x) x ≡ cells model a x
       own-named sh =
-          let c = fitting-canon model (sent x) h (writes-fitting model (sheetLine model a x) (OfSetting x) (sent x) (line-accepted h)) in
-          rw (line-accepted h, stored-row model b (sent x) sh h c) (mixed-front (fieldCount model x) (sent x) (row b x) (few model x) ∙ sent-cells x)
+          let c = fitting-canon model (sent x) (h .holding) (writes-fitting model (sheetLine model a x) (setting x) (sent x) (line-accepted h)) in
+          rw (line-accepted h, stored-row model b (sent x) sh (h .holding) c) (mixed-front (fieldCount model x) (sent x) (row b x) (few-kinds (settingEntry x .fields model)) ∙ sent-cells x)
 
       line-others : {y : Setting} → Holding y → y ≢ x → row (next b x) y ≡ row b y
-      line-others g d = rw (line-accepted h) (stored-others model b (sent x) h g d)
+      line-others g d = rw (line-accepted h) (stored-others model b (sent x) (h .holding) g d)
 
     -- ---- lines of any settings
 
     -- what is not named stays as it was
-    pub copied-others : (xs : List Setting) (b : Settings) → Each Holding xs → {y : Setting} → Holding y → Each (λ x. y ≢ x) xs
+    pub copied-others : (xs : List Setting) (b : Settings) → Each (OnSheet model) xs → {y : Setting} → Holding y → Each (λ x. y ≢ x) xs
         → row (settingsAfter model b (map (sheetLine model a) xs)) y ≡ row b y
     copied-others [] b h g d = refl
     copied-others (x ∷ xs) b h g d = copied-others xs (next b x) (h .1) g (d .1) ∙ line-others b (h .0) g (d .0)
 
     -- and what is named is a's: no later line names it again
-    pub copied-named : (xs : List Setting) (b : Settings) → Each Holding xs → Distinct xs → SettingsShaped b
+    pub copied-named : (xs : List Setting) (b : Settings) → Each (OnSheet model) xs → Distinct xs → SettingsShaped b
         → Each (λ x. cells model (settingsAfter model b (map (sheetLine model a) xs)) x ≡ cells model a x) xs
     copied-named [] b h d sh = tt
     copied-named (x ∷ xs) b h d sh =
-        (ap (λ (r : Row). take (fieldCount model x) (listed r)) (copied-others xs (next b x) (h .1) (h .0) (d .0)) ∙ own-named b (h .0) sh, copied-named xs (next b x) (h .1) (d .1) (line-shaped b (h .0) sh))
+        (ap (λ (r : Row). take (fieldCount model x) (listed r)) (copied-others xs (next b x) (h .1) (h .0 .holding) (d .0)) ∙ own-named b (h .0) sh, copied-named xs (next b x) (h .1) (d .1) (line-shaped b (h .0) sh))
 
 -- ---- the sheet
 
@@ -95,42 +97,42 @@ module _ (model : Model) (a b : Settings) where
   afterLines n = settingsAfter model b (map (sheetLine model a) (take n (sheet model)))
 
   module _ (sa : SettingsShaped a) (sb : SettingsShaped b) (wa : within model a ≡ true) (wb : within model b ≡ true) where
-    cut-holding : (n : ℕ) → Each Holding (take n (sheet model))
-    cut-holding n = each-take Holding n (sheet model) (sheet-holding model)
+    cut-holds : (n : ℕ) → Each (OnSheet model) (take n (sheet model))
+    cut-holds n = each-take (OnSheet model) n (sheet model) (sheet-holds model)
 
     -- cut after n lines, the settings named so far are the first box's, in all their cells
     pub cut-named : (n : ℕ) → Each (λ x. row (afterLines n) x ≡ row a x) (take n (sheet model))
     cut-named n =
         let named = take n (sheet model) in
-        each-both Holding (λ x. cells model (afterLines n) x ≡ cells model a x) (λ x. row (afterLines n) x ≡ row a x)
-        (cells-row model (afterLines n) a (after-within model (map (sheetLine model a) named) b sb wb) wa) named (cut-holding n)
-        (copied-named model a wa named b (cut-holding n) (distinct-take n (sheet model) (sheet-distinct model)) sb)
+        each-both (OnSheet model) (λ x. cells model (afterLines n) x ≡ cells model a x) (λ x. row (afterLines n) x ≡ row a x)
+        (λ x o. cells-row model (afterLines n) a (after-within model (map (sheetLine model a) named) b sb wb) wa x (o .holding)) named (cut-holds n)
+        (copied-named model a wa named b (cut-holds n) (distinct-take n (sheet model) (sheet-distinct model)) sb)
 
     -- the rest are the second box's own
     pub cut-others : (n : ℕ) → Each (λ x. row (afterLines n) x ≡ row b x) (drop n (sheet model))
     cut-others n =
-        each-both Holding (λ y. Each (λ x. y ≢ x) (take n (sheet model))) (λ x. row (afterLines n) x ≡ row b x)
-        (λ y. copied-others model a wa (take n (sheet model)) b (cut-holding n))
-        (drop n (sheet model)) (each-drop Holding n (sheet model) (sheet-holding model)) (distinct-cut n (sheet model) (sheet-distinct model))
+        each-both (OnSheet model) (λ y. Each (λ x. y ≢ x) (take n (sheet model))) (λ x. row (afterLines n) x ≡ row b x)
+        (λ y o. copied-others model a wa (take n (sheet model)) b (cut-holds n) (o .holding))
+        (drop n (sheet model)) (each-drop (OnSheet model) n (sheet model) (sheet-holds model)) (distinct-cut n (sheet model) (sheet-distinct model))
 
     -- after all of the sheet the settings are equal
     pub whole-copy : settingsAfter model b (map (sheetLine model a) (sheet model)) ≡ a
     whole-copy =
         let lines = map (sheetLine model a) (sheet model) in
         sheet-decides model (settingsAfter model b lines) a (after-within model lines b sb wb) wa (after-shaped model lines b sb) sa .0
-        (copied-named model a wa (sheet model) b (sheet-holding model) (sheet-distinct model) sb)
+        (copied-named model a wa (sheet model) b (sheet-holds model) (sheet-distinct model) sb)
 
     -- two boxes give equal sheets exactly when their settings are equal
     pub equal-sheets : (map (settingText model a) (sheet model) ≡ map (settingText model b) (sheet model)) ↔ (a ≡ b)
     equal-sheets = (forth, λ e. ap (λ (s : Settings). map (settingText model s) (sheet model)) e)
       where
         -- equal texts are equal lines, and those are judged equal
-        same-cells : (x : Setting) → Holding x → settingText model a x ≡ settingText model b x → cells model a x ≡ cells model b x
+        same-cells : (x : Setting) → OnSheet model x → settingText model a x ≡ settingText model b x → cells model a x ≡ cells model b x
         same-cells x h e =
             cc (line-accepted model a wa h, line-accepted model b wb h, sent-cells model a x, sent-cells model b x)
 
         forth : map (settingText model a) (sheet model) ≡ map (settingText model b) (sheet model) → a ≡ b
         forth e =
             sheet-decides model a b wa wb sa sb .0
-            (each-both Holding (λ x. settingText model a x ≡ settingText model b x) (λ x. cells model a x ≡ cells model b x) same-cells
-            (sheet model) (sheet-holding model) (map-each (settingText model a) (settingText model b) (sheet model) e))
+            (each-both (OnSheet model) (λ x. settingText model a x ≡ settingText model b x) (λ x. cells model a x ≡ cells model b x) same-cells
+            (sheet model) (sheet-holds model) (map-each (settingText model a) (settingText model b) (sheet model) e))

@@ -5,40 +5,38 @@ use Prim.Native.String.{String}
 use mathlib.Core.Path.{_≡_, refl}
 use mathlib.Core.List.{List, [], _∷_, _++_, map}
 use native.Mathlib.Omega.{arith}
+use borrow.Author.Tests.{lt-ltb}
 use lib.ListN.{length, take}
 use Rattle.text.specs.Text.{ascii}
 use Rattle.text.specs.Digits.{dig, bare}
 use Rattle.numbers.specs.Rounding.{climbWithin, digits, power, rounded, fittedTo}
 use Rattle.numerals.specs.Runs.{lead, rest, headIs, value}
-use Rattle.numerals.specs.Whole.{numeralFault, numberOf}
-use Rattle.numerals.specs.Exponential.{thresholdFault, afterPlus, afterSign, powerOf, composed, fraction, afterFraction, thresholdOf}
-use Rattle.numerals.specs.declared.whole.Numeral.the-variants.{NoNumber}
-use Rattle.numerals.specs.declared.exponential.ThresholdNumeral.{ThresholdNumeral}
-use Rattle.numerals.specs.declared.exponential.ThresholdNumeral.the-variants.{Within, NoThreshold, OutOfRange}
-use Rattle.settings.specs.Mnemonics.{known, name, same, found, recognised}
-use Rattle.settings.specs.Kinds.{storedKinds, kinds}
-use Rattle.settings.specs.Rows.{listed, cells}
+use Rattle.numerals.specs.Whole.{numberOf}
+use Rattle.numerals.specs.Exponential.{afterPlus, afterSign, powerOf, composed, fraction, afterFraction, thresholdOf}
+use Rattle.settings.specs.Cells.{listed}
+use Rattle.settings.specs.Table.{switchingEntry, storedEntry, kinds}
+use Rattle.settings.specs.Mnemonics.{sheet, setting, known, name, same, found, recognised}
+use Rattle.settings.specs.Rows.{cells}
 use Rattle.settings.specs.declared.model.Model.{Model}
 use Rattle.settings.specs.declared.model.Model.the-variants.{Tpg361, Tpg362}
 use Rattle.settings.specs.declared.mnemonic.Setting.the-variants.{Cal}
-use Rattle.settings.specs.declared.mnemonic.Mnemonic.the-variants.{OfSetting, Cf}
-use Rattle.settings.specs.declared.kinds.Limits.{Limits}
+use Rattle.settings.specs.declared.mnemonic.Replying.the-variants.{Cf}
+use Rattle.settings.specs.declared.mnemonic.Mnemonic.the-variants.{OfReplying}
 use Rattle.settings.specs.declared.Settings.{Settings}
 use Rattle.settings.proofs.Sheets.{others-each}
 use Rattle.lines.specs.Splitting.{fields, joined}
-use Rattle.lines.specs.Fields.{errorWord, limited, ranged, thresholdField}
+use Rattle.lines.specs.Words.{errorWord}
+use Rattle.lines.specs.Fields.{limited}
 use Rattle.lines.specs.Judging.{fieldsRead, formed, valued, withFields, judged}
 use Rattle.lines.specs.Replies.{texts, settingText, factorsText}
 use Rattle.lines.specs.declared.verdict.Fault.the-variants.{Syntax}
-use Rattle.lines.specs.declared.verdict.Field.{Field}
-use Rattle.lines.specs.declared.verdict.Field.the-variants.{Held, Malformed, Faulty}
 use Rattle.lines.specs.declared.verdict.Verdict.{Verdict}
 use Rattle.lines.specs.declared.verdict.Verdict.the-variants.{Asks, Writes, Refused}
 use Rattle.lines.proofs.Accepted.{Spelt, all-spelt, line-fields, plain-texts}
 
 -- a verdict in words: what it asks for, what it writes as a reply would say it, or the error word
 abbrev pub says : Model → Verdict → List ℕ
-says model (Asks m) = ascii "asks " ++ name m
+says model (Asks a) = ascii "asks " ++ name (OfReplying a)
 says model (Writes m r) =
     ascii "writes " ++ joined (name m ∷ texts (kinds model m) (take (length (kinds model m)) (listed r)))
 says model (Refused x) = dig 4 (errorWord x)
@@ -86,35 +84,19 @@ abbrev pub expected : List Line → List (List ℕ)
 expected = map (λ (l : Line). ascii (l .said))
 
 pub lines-hold : answers lines ≡ expected lines
-unfolding bare climbWithin digits power rounded fittedTo lead rest headIs value numberOf afterPlus afterSign powerOf composed fraction afterFraction thresholdOf known same found recognised storedKinds fields limited fieldsRead formed valued withFields judged
+unfolding bare climbWithin digits power rounded fittedTo lead rest headIs value numberOf afterPlus afterSign powerOf composed fraction afterFraction thresholdOf known same found sheet recognised switchingEntry storedEntry fields limited fieldsRead formed valued withFields judged
 lines-hold = refl
-
--- ---- the error word of a field
-
-abbrev fieldWord : Field → ℕ
-fieldWord (Held c) = 0
-fieldWord Malformed = errorWord Syntax
-fieldWord (Faulty x) = errorWord x
-
--- is the one that its numeral has by itself; only a number has limits of the setting beside it
-pub threshold-word : (t : ThresholdNumeral) → fieldWord (thresholdField t) ≡ thresholdFault t
-threshold-word (Within c) = refl
-threshold-word NoThreshold = refl
-threshold-word OutOfRange = refl
-
-pub number-word : (l : Limits) → fieldWord (ranged l NoNumber) ≡ numeralFault NoNumber
-number-word l = refl
 
 -- ---- "Sending a CF1 reply back as CF1: two fields on a 362, refused."
 
-factor-spelt : (model : Model) (k : ℕ) → k < 2 → Spelt model (Cf k)
+factor-spelt : (model : Model) (k : ℕ) → k < 2 → Spelt model (OfReplying (Cf k))
 factor-spelt model zero h = others-each (Spelt model) model (all-spelt model) .0
 factor-spelt model (suc zero) h = others-each (Spelt model) model (all-spelt model) .1 .0
 factor-spelt model (suc (suc k)) h = absurd (omega arith)
 
-pub factors-refused : (s : Settings) (k : ℕ) → k < 2 → judged Tpg362 (name (Cf k) ++ (code "," ∷ factorsText Tpg362 s)) ≡ Refused Syntax
+pub factors-refused : (s : Settings) (k : ℕ) → k < 2 → judged Tpg362 (name (OfReplying (Cf k)) ++ (code "," ∷ factorsText Tpg362 s)) ≡ Refused Syntax
 unfolding settingText withFields
 factors-refused s k h =
-    let ks = kinds Tpg362 (OfSetting Cal) in
+    let ks = kinds Tpg362 (setting Cal) in
     let cs = cells Tpg362 s Cal in
-    line-fields Tpg362 (Cf k) (factor-spelt Tpg362 k h) (texts ks cs) h (plain-texts ks cs)
+    line-fields Tpg362 (OfReplying (Cf k)) (factor-spelt Tpg362 k h) (texts ks cs) (lt-ltb k 2 h) (plain-texts ks cs)

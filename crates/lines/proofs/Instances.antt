@@ -5,7 +5,7 @@ use Rattle.text.specs.Text.{ascii}
 use Rattle.text.specs.Page.{put, puts, Page}
 use Rattle.text.specs.Digits.{bare}
 use Rattle.text.specs.Control.{cr, lf, crLf}
-use Rattle.settings.specs.Models.{defaults}
+use Rattle.settings.specs.Table.{defaults}
 use Rattle.settings.specs.declared.model.Model.{Model}
 use Rattle.settings.specs.declared.model.Model.the-variants.{Tpg361, Tpg362}
 use Rattle.lines.specs.Replies.{settingText, factorsText}

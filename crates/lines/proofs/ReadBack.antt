@@ -13,18 +13,17 @@ use Rattle.ground.specs.Members.{Each}
 use Rattle.ground.proofs.Cases.{in-range, cond-cases}
 use Rattle.ground.proofs.Members.{each-append}
 use Rattle.text.specs.Digits.{dig, bare, wholeText, factorText}
-use Rattle.numbers.specs.Numbers.{between}
 use Rattle.numbers.specs.declared.threshold.Threshold.{Threshold}
 use Rattle.numerals.specs.Whole.{wholeOf, factorOf}
 use Rattle.numerals.specs.Writing.{signByte, scientific}
 use Rattle.numerals.specs.declared.whole.Numeral.{Numeral}
 use Rattle.numerals.specs.declared.whole.Numeral.the-variants.{Number}
 use Rattle.numerals.proofs.RoundTrip.{whole-round, factor-round, threshold-round}
-use Rattle.settings.specs.Limits.{inside, fits}
-use Rattle.settings.specs.declared.kinds.Limits.{Limits}
-use Rattle.settings.specs.declared.kinds.Kind.{Kind}
-use Rattle.settings.specs.declared.kinds.Kind.the-variants.{OfWhole, OfFactor, OfThreshold}
-use Rattle.settings.proofs.Places.{fits-plain}
+use Rattle.settings.specs.Limits.{sameNumber, inside, fits}
+use Rattle.settings.specs.declared.table.Limits.{Limits}
+use Rattle.settings.specs.declared.table.Kind.{Kind}
+use Rattle.settings.specs.declared.table.Kind.the-variants.{OfWhole, OfFactor, OfThreshold}
+use Rattle.settings.proofs.Places.{number-plain}
 use Rattle.lines.specs.Fields.{limited, ranged, thresholdField, read, write}
 use Rattle.lines.specs.declared.verdict.Field.the-variants.{Held}
 
@@ -86,13 +85,13 @@ sound OfThreshold = true
 -- a number within limits is held as the cell that it came from
 number-held : (l : Limits) (c : Threshold) → inside l c ≡ true → limited l (c .mantissa) ≡ Held c
 unfolding limited
-number-held l c f = rw (and-eq-true-iff (between (pos 0) (pos 0) (c .exponent)) _ .0 f .1) (ap Held (sym (fits-plain l c f)))
+number-held l c f = rw (and-eq-true-iff (sameNumber (c .exponent) (pos 0)) _ .0 f .1) (ap Held (sym (number-plain (OfWhole l) c refl f)))
 
 -- where every number up to the bound is read back
 numeral-back : (numeral : List ℕ → Numeral) (text : ℕ → List ℕ) (bound : ℕ) → ((n : ℕ) → n < bound → numeral (text n) ≡ Number n)
     → (l : Limits) (c : Threshold) → ltb (l .most) bound ≡ true → inside l c ≡ true → ranged l (numeral (text (c .mantissa))) ≡ Held c
 numeral-back numeral text bound back l c s f =
-    let h = in-range (l .least) (l .most) (c .mantissa) (and-eq-true-iff (between (pos 0) (pos 0) (c .exponent)) _ .0 f .1) in
+    let h = in-range (l .least) (l .most) (c .mantissa) (and-eq-true-iff (sameNumber (c .exponent) (pos 0)) _ .0 f .1) in
     ap (ranged l) (back (c .mantissa) (omega (arith, ltb-true (l .most) bound s))) ∙ number-held l c f
 
 pub reads-back : (k : Kind) (c : Threshold) → sound k ≡ true → fits k c ≡ true → read k (write k c) ≡ Held c

@@ -1,5 +1,5 @@
 -- The fields of a line one after the other, as the code walks them, are those of the line split at its commas.
-use Prim.Native.Nat.{ℕ, suc, _+_, _-_, _≤_, _<_}
+use Prim.Native.Nat.{ℕ, zero, suc, _+_, _-_, _≤_, _<_}
 use mathlib.Core.Path.{_≡_, refl, sym, ap, _∙_, subst}
 use mathlib.Core.Logic.{⊎-elim}
 use mathlib.Core.List.{List, [], _∷_}
@@ -15,20 +15,18 @@ use Rattle.text.specs.Spans.{until}
 use Rattle.text.proofs.Marks.{until-few}
 use Rattle.numbers.specs.declared.threshold.Threshold.{Threshold}
 use Rattle.numerals.specs.Runs.{part}
-use Rattle.settings.specs.Models.{channels}
-use Rattle.settings.specs.Mnemonics.{recognised, channelOf}
-use Rattle.settings.specs.Kinds.{kinds, packed}
-use Rattle.settings.specs.Rows.{plain}
+use Rattle.settings.specs.Cells.{plain}
+use Rattle.settings.specs.Table.{kindsOf, entry, on, kinds}
+use Rattle.settings.specs.Mnemonics.{recognised, isThere}
 use Rattle.settings.specs.declared.model.Model.{Model}
 use Rattle.settings.specs.declared.mnemonic.Mnemonic.{Mnemonic}
-use Rattle.settings.specs.declared.mnemonic.Mnemonic.the-variants.{OfSetting, Cf, OfQuery, Com, Sav}
 use Rattle.settings.specs.declared.mnemonic.Named.{Named}
 use Rattle.settings.specs.declared.mnemonic.Named.the-variants.{Known}
-use Rattle.settings.specs.declared.kinds.Kind.{Kind}
-use Rattle.settings.specs.declared.kinds.Kind.the-variants.{OfThreshold}
-use Rattle.settings.specs.declared.kinds.Kinds.{Kinds}
+use Rattle.settings.specs.declared.table.Kind.{Kind}
+use Rattle.settings.specs.declared.table.Fields.{Fields}
+use Rattle.settings.specs.declared.table.Entry.{Entry}
 use Rattle.settings.proofs.Names.{not-three}
-use Rattle.settings.proofs.Sheets.{few}
+use Rattle.settings.proofs.Tabled.{few, count-kinds}
 use Rattle.lines.specs.Splitting.{fields, onFirst, word, behind}
 use Rattle.lines.specs.Fields.{read}
 use Rattle.lines.specs.Judging.{fieldsRead, formed, valued, judgedFields, alone, withFields, named, parted, judged}
@@ -144,34 +142,38 @@ module _ (has : Bool) (k : Kind) (s : List ℕ) (a : ℕ) (h : a ≤ length s) w
 -- ---- up to three fields, one after the other
 
 -- the fields that are read from what is left of a line, with nothing where there is no kind
-abbrev walked : List Kind → List ℕ → List Field
-walked ks s =
-    let n = length ks in
+abbrev walked : Fields → List ℕ → List Field
+walked f s =
+    let n = f .count in
     let t = beyond (ltb 0 n) s in
-    headField (ltb 0 n) (getD ks 0 OfThreshold) s ∷ headField (ltb 1 n) (getD ks 1 OfThreshold) t ∷ headField (ltb 2 n) (getD ks 2 OfThreshold) (beyond (ltb 1 n) t) ∷ []
+    headField (ltb 0 n) (f .first) s ∷ headField (ltb 1 n) (f .others) t ∷ headField (ltb 2 n) (f .others) (beyond (ltb 1 n) t) ∷ []
 
 -- reading them so is reading the list of fields
-walked-is : (m : Mnemonic) (ks : List Kind) (s : List ℕ) → length (fields s) ≡ length ks → length ks ≤ 3
-    → judgedFields m (walked ks s) ≡ judgedFields m (fieldsRead ks (fields s))
+walked-is : (m : Mnemonic) (f : Fields) (s : List ℕ) → length (fields s) ≡ f .count → f .count ≤ 3
+    → judgedFields m (walked f s) ≡ judgedFields m (fieldsRead (kindsOf f) (fields s))
 unfolding fieldsRead formed valued
-walked-is m [] s e h = absurd (omega (arith, some-fields s))
-walked-is m (k ∷ []) s e h = rw (last-of s e)
-walked-is m (k ∷ l ∷ []) s e h =
-    let a = next-of s (omega arith) in
-    let b = last-of (behind s) (omega (arith, ap length a)) in
-    rw (a, b)
-walked-is m (k ∷ l ∷ n ∷ []) s e h =
-    let a = next-of s (omega arith) in
-    let b = next-of (behind s) (omega (arith, ap length a)) in
-    let c = last-of (behind (behind s)) (omega (arith, ap length a, ap length b)) in
-    rw (a, b, c)
-walked-is m (k ∷ l ∷ n ∷ o ∷ ks) s e h = absurd (omega arith)
+walked-is m f s = by (f .count)
+  where
+    by : (n : ℕ) → length (fields s) ≡ n → n ≤ 3
+        → judgedFields m (walked (record { count = n; first = f .first; others = f .others }) s)
+        ≡ judgedFields m (fieldsRead (kindsOf (record { count = n; first = f .first; others = f .others })) (fields s))
+    by zero e h = absurd (omega (arith, some-fields s))
+    by (suc zero) e h = rw (last-of s e)
+    by (suc (suc zero)) e h =
+        let a = next-of s (omega arith) in
+        let b = last-of (behind s) (omega (arith, ap length a)) in
+        rw (a, b)
+    by (suc (suc (suc zero))) e h =
+        let a = next-of s (omega arith) in
+        let b = next-of (behind s) (omega (arith, ap length a)) in
+        let c = last-of (behind (behind s)) (omega (arith, ap length a, ap length b)) in
+        rw (a, b, c)
+    by (suc (suc (suc (suc n)))) e h = absurd (omega arith)
 
-walked-by : (ks : List Kind) (s : List ℕ) (a : ℕ) (x y z : FieldOutcome)
-    → Taken (ltb 0 (length ks)) (getD ks 0 OfThreshold) s a x → Taken (ltb 1 (length ks)) (getD ks 1 OfThreshold) s (x .next) y
-    → Taken (ltb 2 (length ks)) (getD ks 2 OfThreshold) s (y .next) z
-    → x .field ∷ y .field ∷ z .field ∷ [] ≡ walked ks (drop a s)
-walked-by ks s a x y z p q r = rw (p .field, q .field, r .field, q .rest, p .rest)
+walked-by : (f : Fields) (s : List ℕ) (a : ℕ) (x y z : FieldOutcome)
+    → Taken (ltb 0 (f .count)) (f .first) s a x → Taken (ltb 1 (f .count)) (f .others) s (x .next) y → Taken (ltb 2 (f .count)) (f .others) s (y .next) z
+    → x .field ∷ y .field ∷ z .field ∷ [] ≡ walked f (drop a s)
+walked-by f s a x y z p q r = rw (p .field, q .field, r .field, q .rest, p .rest)
 
 judged-by : (model : Model) (m : Mnemonic) (fs : List (List ℕ)) → 1 ≤ length fs → length fs ≡ length (kinds model m)
     → judgedFields m (fieldsRead (kinds model m) fs) ≡ withFields model m fs
@@ -184,41 +186,37 @@ unfolding withFields
 wrong-by model m [] h e = absurd (omega arith)
 wrong-by model m (f ∷ fs) h e = rw (ne-eqb (length (f ∷ fs)) (length (kinds model m)) e)
 
-few-kinds : (model : Model) (m : Mnemonic) → length (kinds model m) ≤ 3
-few-kinds model (OfSetting x) = few model x
-few-kinds model (Cf k) = omega arith
-few-kinds model (OfQuery q) = omega arith
-few-kinds model Com = omega arith
-few-kinds model Sav = omega arith
+-- the fields of a line from place a on, by the row of its mnemonic
+module _ (model : Model) (m : Mnemonic) (e : Entry) (q : e ≡ on model (entry m)) (s : List ℕ) (a : ℕ) where
+  counted : length (kinds model m) ≡ e .fields .count
+  counted = count-kinds (entry m .fields model) (few model m) ∙ sym (ap (λ (r : Entry). r .fields .count) q)
 
-module _ (model : Model) (m : Mnemonic) (ks : Kinds) (e : ks ≡ packed (kinds model m)) (s : List ℕ) (a : ℕ) where
-  pub fields-judged : (x y z : FieldOutcome) → length (fields (drop a s)) ≡ ks .count → Taken (ltb 0 (ks .count)) (ks .first) s a x
-      → Taken (ltb 1 (ks .count)) (ks .second) s (x .next) y → Taken (ltb 2 (ks .count)) (ks .third) s (y .next) z
+  pub fields-judged : (x y z : FieldOutcome) → length (fields (drop a s)) ≡ e .fields .count → Taken (ltb 0 (e .fields .count)) (e .fields .first) s a x
+      → Taken (ltb 1 (e .fields .count)) (e .fields .others) s (x .next) y → Taken (ltb 2 (e .fields .count)) (e .fields .others) s (y .next) z
       → judgedFields m (x .field ∷ y .field ∷ z .field ∷ []) ≡ withFields model m (fields (drop a s))
-  fields-judged x y z n p q r =
-      let c : length (fields (drop a s)) ≡ length (kinds model m) = n ∙ ap (λ (k : Kinds). k .count) e in
-      ap (judgedFields m) (walked-by (kinds model m) s a x y z (rw e at p) (rw e at q) (rw e at r))
-      ∙ walked-is m (kinds model m) (drop a s) c (few-kinds model m)
-      ∙ judged-by model m (fields (drop a s)) (some-fields (drop a s)) c
+  fields-judged x y z n p t r =
+      ap (judgedFields m) (walked-by (entry m .fields model) s a x y z (rw q at p) (rw q at t) (rw q at r))
+      ∙ walked-is m (entry m .fields model) (drop a s) (n ∙ ap (λ (r : Entry). r .fields .count) q) (few model m)
+      ∙ judged-by model m (fields (drop a s)) (some-fields (drop a s)) (n ∙ sym counted)
 
-  pub fields-wrong : (length (fields (drop a s)) ≡ ks .count → ⊥) → Refused Syntax ≡ withFields model m (fields (drop a s))
-  fields-wrong n = wrong-by model m (fields (drop a s)) (some-fields (drop a s)) (λ c. n (c ∙ sym (ap (λ (k : Kinds). k .count) e)))
+  pub fields-wrong : (length (fields (drop a s)) ≡ e .fields .count → ⊥) → Refused Syntax ≡ withFields model m (fields (drop a s))
+  fields-wrong n = wrong-by model m (fields (drop a s)) (some-fields (drop a s)) (λ c. n (c ∙ counted))
 
 -- ---- a whole line
 
 -- a known mnemonic that ends at the place e
 module _ (model : Model) (m : Mnemonic) (s : List ℕ) (e : ℕ) (q : e ≡ length (word s)) where
-  pub known-more : channelOf m < channels model → e < length s → withFields model m (fields (drop (e + 1) s)) ≡ named model (Known m) (drop 1 (fields s))
+  pub known-more : isThere model m ≡ true → e < length s → withFields model m (fields (drop (e + 1) s)) ≡ named model (Known m) (drop 1 (fields s))
   known-more p h =
       let n : e + 1 ≡ suc (length (word s)) = omega arith in
-      rw (lt-ltb (channelOf m) (channels model) p, split s .1 (omega arith)) (ap (λ (k : ℕ). withFields model m (fields (drop k s))) n)
+      rw (p, split s .1 (omega arith)) (ap (λ (k : ℕ). withFields model m (fields (drop k s))) n)
 
-  pub known-alone : channelOf m < channels model → length s ≤ e → alone m ≡ named model (Known m) (drop 1 (fields s))
+  pub known-alone : isThere model m ≡ true → length s ≤ e → alone model m ≡ named model (Known m) (drop 1 (fields s))
   unfolding withFields
-  known-alone p h = rw (lt-ltb (channelOf m) (channels model) p, split s .0 (omega (arith, word-short s)))
+  known-alone p h = rw (p, split s .0 (omega (arith, word-short s)))
 
-pub known-not : (model : Model) (m : Mnemonic) (fs : List (List ℕ)) → channels model ≤ channelOf m → Refused Hardware ≡ named model (Known m) fs
-known-not model m fs p = rw (le-ltb (channelOf m) (channels model) p)
+pub known-not : (model : Model) (m : Mnemonic) (fs : List (List ℕ)) → isThere model m ≡ false → Refused Hardware ≡ named model (Known m) fs
+known-not model m fs p = rw p
 
 module _ (model : Model) where
   -- the empty line names nothing, so it too is judged by its parts, and the first test needs no code of its own

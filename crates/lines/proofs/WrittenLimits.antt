@@ -1,15 +1,16 @@
 -- What an accepted line writes fits its fields, so it keeps the limits of the settings.
-use Prim.Native.Nat.{ℕ, zero, suc, _≤_, _<_}
+use Prim.Native.Nat.{ℕ, _≤_}
 use mathlib.Core.Path.{_≡_, refl, sym, ap, _∙_, subst}
 use mathlib.Core.List.{List, [], _∷_, map}
 use mathlib.Core.Bool.{true, _&&_}
-use mathlib.Core.Logic.{_≢_, ⊎-elim}
+use mathlib.Core.Logic.{_≢_}
 use native.Mathlib.Omega.{arith}
-use borrow.Author.Tests.{ltb-true, eqb-true, lt-ltb, le-ltb}
-use lib.ListN.{length, getD, drop, List·getD-eq-default}
-use lib.Dec.{eqb, leb, ltb}
+use borrow.Author.Tests.{ltb-true, eqb-true}
+use lib.ListN.{length, drop}
+use lib.Dec.{eqb, leb}
 use Rattle.ground.specs.Members.{Each}
-use Rattle.ground.proofs.Cases.{below, cond-cases, never}
+use Rattle.ground.proofs.Cases.{cond-cases, never}
+use Rattle.ground.proofs.Members.{each-map}
 use Rattle.numbers.specs.declared.threshold.Threshold.{Threshold}
 use Rattle.numerals.specs.Runs.{lead, rest, headIs}
 use Rattle.numerals.specs.Whole.{numberOf, wholeOf, factorOf}
@@ -20,31 +21,33 @@ use Rattle.numerals.specs.declared.exponential.ThresholdNumeral.{ThresholdNumer
 use Rattle.numerals.specs.declared.exponential.ThresholdNumeral.the-variants.{Within, NoThreshold, OutOfRange}
 use Rattle.numerals.proofs.Stops.{read-within}
 use Rattle.settings.specs.Models.{channels}
-use Rattle.settings.specs.Mnemonics.{known, name, same, found, recognised, channelOf}
-use Rattle.settings.specs.Kinds.{kinds}
-use Rattle.settings.specs.Rows.{plain, pairRow, stored}
-use Rattle.settings.specs.Limits.{inside, fits, placeWithin, within, SettingsShaped}
+use Rattle.settings.specs.Cells.{plain, pairRow, listed, rowOf}
+use Rattle.settings.specs.Table.{entry, kinds}
+use Rattle.settings.specs.Mnemonics.{sheet, setting, known, name, same, found, recognised, isThere}
+use Rattle.settings.specs.Rows.{stored}
+use Rattle.settings.specs.Limits.{inside, fits, cellsFit, within, SettingsShaped}
 use Rattle.settings.specs.declared.model.Model.{Model}
 use Rattle.settings.specs.declared.mnemonic.Mnemonic.{Mnemonic}
-use Rattle.settings.specs.declared.mnemonic.Mnemonic.the-variants.{OfSetting, Cf, OfQuery, Com, Sav}
+use Rattle.settings.specs.declared.mnemonic.Replying.the-variants.{OfSetting, Cf, OfQuery}
+use Rattle.settings.specs.declared.mnemonic.Mnemonic.the-variants.{OfReplying, Com, Sav}
 use Rattle.settings.specs.declared.mnemonic.Named.{Named}
 use Rattle.settings.specs.declared.mnemonic.Named.the-variants.{Known, Unknown}
-use Rattle.settings.specs.declared.kinds.Limits.{Limits}
-use Rattle.settings.specs.declared.kinds.Kind.{Kind}
-use Rattle.settings.specs.declared.kinds.Kind.the-variants.{OfWhole, OfFactor, OfThreshold}
+use Rattle.settings.specs.declared.table.Limits.{Limits}
+use Rattle.settings.specs.declared.table.Kind.{Kind}
+use Rattle.settings.specs.declared.table.Kind.the-variants.{OfWhole, OfFactor, OfThreshold}
 use Rattle.settings.specs.declared.rows.Row.{Row}
 use Rattle.settings.specs.declared.Settings.{Settings}
-use Rattle.settings.proofs.Places.{cell, places-row}
+use Rattle.settings.proofs.Tabled.{few-kinds}
 use Rattle.settings.proofs.Storing.{Holding, stored-shaped}
-use Rattle.settings.proofs.Sheets.{sheet-holding, known-each}
+use Rattle.settings.proofs.Sheets.{OnSheet, sheet-holds, known-each}
 use Rattle.settings.proofs.StoredLimits.{Fitting, stored-within, factor-within}
 use Rattle.lines.specs.Splitting.{fields}
 use Rattle.lines.specs.Fields.{limited, ranged, thresholdField, read}
-use Rattle.lines.specs.Judging.{fieldsRead, formed, valued, cellOf, rowOf, judgedFields, alone, withFields, named, parted, judged, effect}
+use Rattle.lines.specs.Judging.{fieldsRead, formed, valued, cellOf, judgedFields, alone, withFields, named, parted, judged, effect}
 use Rattle.lines.specs.declared.verdict.Fault.{Fault}
 use Rattle.lines.specs.declared.verdict.Fault.the-variants.{Syntax, Parameter, Hardware}
 use Rattle.lines.specs.declared.verdict.Field.{Field}
-use Rattle.lines.specs.declared.verdict.Field.the-variants.{Held, Malformed, Faulty}
+use Rattle.lines.specs.declared.verdict.Field.the-variants.{Held, Faulty}
 use Rattle.lines.specs.declared.verdict.Verdict.{Verdict}
 use Rattle.lines.specs.declared.verdict.Verdict.the-variants.{Asks, Writes, Refused}
 use Rattle.lines.proofs.Walking.{judged-parts}
@@ -58,7 +61,7 @@ unfolding limited
 limited-fits l n c =
     cond-cases Fit (leb (l .least) n && leb n (l .most)) (Held (plain n)) _
     (λ t e. let s : plain n ≡ c = cc in subst (λ x. inside l x ≡ true) s t)
-    (λ _. cond-cases Fit (leb (l .least) n && leb n (l .reach)) (Faulty Hardware) (Faulty Parameter)
+    (λ _. cond-cases Fit (leb (l .least) n && leb n (l .paired)) (Faulty Hardware) (Faulty Parameter)
     (λ _ e. never (cc)) (λ _ e. never (cc)))
   where
     Fit : Field → Type 0
@@ -93,15 +96,15 @@ module _ (u : Verdict) (n : Accepting u) where
   unfolding formed
   formed-out [] v e = e
   formed-out (Held c ∷ rs) v e = formed-out rs v e
-  formed-out (Faulty x ∷ rs) v e = formed-out rs v e
-  formed-out (Malformed ∷ rs) v e = absurd (n Syntax (sym e))
+  formed-out (Faulty Syntax ∷ rs) v e = absurd (n Syntax (sym e))
+  formed-out (Faulty Parameter ∷ rs) v e = formed-out rs v e
+  formed-out (Faulty Hardware ∷ rs) v e = formed-out rs v e
 
   all-hold : (rs : List Field) (v w : Verdict) → formed rs v ≡ u → valued rs w ≡ u → Each Holds rs × (w ≡ u)
   unfolding formed valued Holds
   all-hold [] v w a b = (tt, b)
   all-hold (Held c ∷ rs) v w a b = let p = all-hold rs v w a b in ((refl, p .0), p .1)
   all-hold (Faulty x ∷ rs) v w a b = absurd (n x (sym b))
-  all-hold (Malformed ∷ rs) v w a b = absurd (n Syntax (sym a))
 
   fields-hold : (m : Mnemonic) (rs : List Field) → judgedFields m rs ≡ u → Each Holds rs × (Writes m (rowOf (map cellOf rs)) ≡ u)
   fields-hold m rs e = let v = valued rs (Writes m (rowOf (map cellOf rs))) in all-hold rs v (Writes m (rowOf (map cellOf rs))) e (formed-out rs v e)
@@ -111,7 +114,7 @@ module _ (u : Verdict) (n : Accepting u) where
   fields-write m rs e = fields-hold m rs e .1
 
 -- "An empty field is a fault of form. It never means a default.", of whatever kind
-pub empty-malformed : (k : Kind) → read k [] ≡ Malformed
+pub empty-malformed : (k : Kind) → read k [] ≡ Faulty Syntax
 unfolding lead rest headIs numberOf factorOf afterPlus fraction afterFraction composed thresholdOf
 empty-malformed (OfWhole l) = refl
 empty-malformed (OfFactor l) = refl
@@ -137,30 +140,14 @@ fit-readings (k ∷ ks) (f ∷ fs) e h = next (read-fits k f (cellOf (read k f))
 
 -- ---- as a row
 
--- cells that fit their kinds do so at each place, and there are no others
-fit-at : {ks : List Kind} {cs : List Threshold} → AllFit ks cs → (i : ℕ) → i < length ks → fits (getD ks i OfThreshold) (getD cs i (plain 0)) ≡ true
-fit-at none i l = absurd (omega arith)
-fit-at (next h f) zero l = h
-fit-at (next h f) (suc i) l = fit-at f i (omega arith)
-
-fit-count : {ks : List Kind} {cs : List Threshold} → AllFit ks cs → length cs ≡ length ks
-fit-count none = refl
-fit-count (next h f) = ap suc (fit-count f)
-
-row-cell : (cs : List Threshold) (i : ℕ) → i < 3 → cell (rowOf cs) i ≡ getD cs i (plain 0)
-row-cell cs zero h = refl
-row-cell cs (suc zero) h = refl
-row-cell cs (suc (suc zero)) h = refl
-row-cell cs (suc (suc (suc i))) h = absurd (omega arith)
-
-row-fitting : (ks : List Kind) (cs : List Threshold) → AllFit ks cs → Fitting ks (rowOf cs)
-row-fitting ks cs f = places-row ks (rowOf cs) (pairRow 0 0) (λ i h. rw (row-cell cs i h, row-cell [] i h) (at i))
-  where
-    at : (i : ℕ) → placeWithin (ltb i (length ks)) (getD ks i OfThreshold) (getD cs i (plain 0)) (plain 0) ≡ true
-    at i =
-        ⊎-elim (λ (l : i < length ks). rw (lt-ltb i (length ks) l) (fit-at f i l))
-        (λ (g : length ks ≤ i). let n : length cs ≤ i = omega (arith, fit-count f) in rw (le-ltb i (length ks) g, List·getD-eq-default cs (plain 0) n))
-        (below i (length ks))
+-- cells that fit their kinds, with nothing behind them
+row-fitting : {ks : List Kind} {cs : List Threshold} → AllFit ks cs → length ks ≤ 3 → cellsFit ks (listed (rowOf cs)) (listed (pairRow 0 0)) ≡ true
+unfolding cellsFit
+row-fitting none h = refl
+row-fitting (next a none) h = rw a
+row-fitting (next a (next b none)) h = rw (a, b)
+row-fitting (next a (next b (next c none))) h = rw (a, b, c)
+row-fitting (next a (next b (next c (next d f)))) h = absurd (omega arith)
 
 -- ---- what a line needs to be accepted
 
@@ -169,7 +156,7 @@ pub record Reached (model : Model) (fs : List (List ℕ)) (v : Verdict) : Type 0
   pub mnemonic : Mnemonic
   pub word : List ℕ
   pub known : recognised model word ≡ Known mnemonic
-  pub there : channelOf mnemonic < channels model
+  pub there : isThere model mnemonic ≡ true
   pub verdict : withFields model mnemonic fs ≡ v
 
 -- for whatever is not refused
@@ -177,8 +164,8 @@ module _ (model : Model) (v : Verdict) (n : Accepting v) where
   named-reached : (word : List ℕ) (fs : List (List ℕ)) (c : Named) → recognised model word ≡ c → named model c fs ≡ v → Reached model fs v
   named-reached word fs Unknown k e = absurd (n Syntax (sym e))
   named-reached word fs (Known m) k e =
-      cond-cases (λ u. u ≡ v → Reached model fs v) (ltb (channelOf m) (channels model)) (withFields model m fs) (Refused Hardware)
-      (λ t w. record { mnemonic = m; word = word; known = k; there = ltb-true (channelOf m) (channels model) t; verdict = w })
+      cond-cases (λ u. u ≡ v → Reached model fs v) (isThere model m) (withFields model m fs) (Refused Hardware)
+      (λ t w. record { mnemonic = m; word = word; known = k; there = t; verdict = w })
       (λ _ w. absurd (n Hardware (sym w))) e
 
   parts-reached : (parts : List (List ℕ)) → parted model parts ≡ v → Reached model (drop 1 parts) v
@@ -206,16 +193,15 @@ module _ (model : Model) (m : Mnemonic) (r : Row) where
   -- what the fields of a line that writes are
   record Written (n : Mnemonic) (fs : List (List ℕ)) : Type 0 where
     by : n ≡ m
-    fit : Fitting (kinds model n) r
+    fit : Fitting (entry n .fields model) r
     all : Each Filled fs
 
   -- COM and SAV alone write their defaults
-  alone-written : (n : Mnemonic) → alone n ≡ Writes m r → Written n []
-  alone-written (OfSetting x) e = never (cc)
-  alone-written (Cf k) e = never (cc)
-  alone-written (OfQuery q) e = never (cc)
-  alone-written Com e = let s : pairRow 1 0 ≡ r = cc in record { by = cc; fit = subst (Fitting (kinds model Com)) s refl; all = tt }
-  alone-written Sav e = let s : pairRow 0 0 ≡ r = cc in record { by = cc; fit = subst (Fitting (kinds model Sav)) s refl; all = tt }
+  alone-written : (n : Mnemonic) → alone model n ≡ Writes m r → Written n []
+  unfolding cellsFit
+  alone-written (OfReplying a) e = never (cc)
+  alone-written Com e = let s : entry Com .default model ≡ r = cc in record { by = cc; fit = subst (Fitting (entry Com .fields model)) s refl; all = tt }
+  alone-written Sav e = let s : entry Sav .default model ≡ r = cc in record { by = cc; fit = subst (Fitting (entry Sav .fields model)) s refl; all = tt }
 
   fields-written : (n : Mnemonic) (fs : List (List ℕ)) → length fs ≡ length (kinds model n) → judgedFields n (fieldsRead (kinds model n) fs) ≡ Writes m r → Written n fs
   fields-written n fs c e =
@@ -224,7 +210,7 @@ module _ (model : Model) (m : Mnemonic) (r : Row) where
       let p = fields-hold (Writes m r) (λ x q. never (cc)) n rs e in
       let q : Writes n (rowOf (map cellOf rs)) ≡ Writes m r = p .1 in
       let s : rowOf (map cellOf rs) ≡ r = cc in
-      record { by = cc; fit = subst (Fitting ks) s (row-fitting ks (map cellOf rs) (fit-readings ks fs c (p .0))); all = filled ks fs c (p .0) }
+      record { by = cc; fit = subst (Fitting (entry n .fields model)) s (row-fitting (fit-readings ks fs c (p .0)) (few-kinds (entry n .fields model))); all = filled ks fs c (p .0) }
 
   with-written : (n : Mnemonic) (fs : List (List ℕ)) → withFields model n fs ≡ Writes m r → Written n fs
   unfolding withFields
@@ -242,15 +228,15 @@ module _ (model : Model) (line : List ℕ) (m : Mnemonic) (r : Row) (e : judged 
   written : Written model m r (at .mnemonic) (drop 1 (fields line))
   written = with-written model m r (at .mnemonic) (drop 1 (fields line)) (at .verdict)
 
-  pub writes-fitting : Fitting (kinds model m) r
-  writes-fitting = subst (λ n. Fitting (kinds model n) r) (written .by) (written .fit)
+  pub writes-fitting : Fitting (entry m .fields model) r
+  writes-fitting = subst (λ n. Fitting (entry n .fields model) r) (written .by) (written .fit)
 
   -- a line that writes has no empty field
   pub writes-filled : Each Filled (drop 1 (fields line))
   writes-filled = written .all
 
-  pub writes-there : channelOf m < channels model
-  writes-there = subst (λ n. channelOf n < channels model) (written .by) (at .there)
+  pub writes-there : isThere model m ≡ true
+  writes-there = subst (λ n. isThere model n ≡ true) (written .by) (at .there)
 
   pub writes-known : (P : Mnemonic → Type 0) → Each P (known model) → P m
   writes-known P k = subst P (written .by) (reached-known P at k)
@@ -259,23 +245,24 @@ module _ (model : Model) (line : List ℕ) (m : Mnemonic) (r : Row) (e : judged 
 
 -- a setting that is known is one that the arrays hold
 abbrev Kept : Mnemonic → Type 0
-Kept (OfSetting x) = Holding x
-Kept (Cf k) = Unit {0}
-Kept (OfQuery q) = Unit {0}
+Kept (OfReplying (OfSetting x)) = Holding x
+Kept (OfReplying (Cf k)) = Unit {0}
+Kept (OfReplying (OfQuery q)) = Unit {0}
 Kept Com = Unit {0}
 Kept Sav = Unit {0}
 
 -- of the others there is nothing to say
 known-kept : (model : Model) → Each Kept (known model)
-known-kept model = known-each Kept model (sheet-holding model) (omega arith)
+known-kept model = known-each Kept model (each-map (OnSheet model) Holding (λ x o. o .holding) (sheet model) (sheet-holds model)) (omega arith)
 
 line-within : (model : Model) (s : Settings) (line : List ℕ) (m : Mnemonic) (r : Row) → SettingsShaped s → within model s ≡ true → judged model line ≡ Writes m r
     → within model (stored model s m r) ≡ true
-line-within model s line (OfSetting x) r sh w e =
-    stored-within model s r sh (writes-known model line (OfSetting x) r e Kept (known-kept model)) w (writes-fitting model line (OfSetting x) r e)
-line-within model s line (Cf k) r sh w e =
-    factor-within model s r k sh (writes-there model line (Cf k) r e) w (writes-fitting model line (Cf k) r e)
-line-within model s line (OfQuery q) r sh w e = w
+line-within model s line (OfReplying (OfSetting x)) r sh w e =
+    stored-within model s r sh (writes-known model line (setting x) r e Kept (known-kept model)) w (writes-fitting model line (setting x) r e)
+line-within model s line (OfReplying (Cf k)) r sh w e =
+    let m = OfReplying (Cf k) in
+    factor-within model s r k sh (ltb-true k (channels model) (writes-there model line m r e)) w (writes-fitting model line m r e)
+line-within model s line (OfReplying (OfQuery q)) r sh w e = w
 line-within model s line Com r sh w e = w
 line-within model s line Sav r sh w e = w
 

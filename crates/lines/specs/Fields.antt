@@ -5,43 +5,36 @@ use mathlib.Core.Bool.{cond}
 use Rattle.ground.specs.Ranges.{inRange}
 use Rattle.text.specs.Digits.{wholeText, factorText}
 use Rattle.numbers.specs.declared.threshold.Threshold.{Threshold}
-use Rattle.numerals.specs.Whole.{wholeOf, factorOf}
-use Rattle.numerals.specs.Exponential.{thresholdOf}
+use Rattle.numerals.specs.Whole.{numeralFault, wholeOf, factorOf}
+use Rattle.numerals.specs.Exponential.{thresholdFault, thresholdOf}
 use Rattle.numerals.specs.Writing.{thresholdText}
 use Rattle.numerals.specs.declared.whole.Numeral.{Numeral}
 use Rattle.numerals.specs.declared.whole.Numeral.the-variants.{Number, NoNumber}
 use Rattle.numerals.specs.declared.exponential.ThresholdNumeral.{ThresholdNumeral}
 use Rattle.numerals.specs.declared.exponential.ThresholdNumeral.the-variants.{Within, NoThreshold, OutOfRange}
-use Rattle.settings.specs.Rows.{plain}
-use Rattle.settings.specs.declared.kinds.Limits.{Limits}
-use Rattle.settings.specs.declared.kinds.Kind.{Kind}
-use Rattle.settings.specs.declared.kinds.Kind.the-variants.{OfWhole, OfFactor, OfThreshold}
-use Rattle.lines.specs.declared.verdict.Fault.{Fault}
-use Rattle.lines.specs.declared.verdict.Fault.the-variants.{Syntax, Parameter, Hardware}
+use Rattle.settings.specs.Cells.{plain}
+use Rattle.settings.specs.declared.table.Limits.{Limits}
+use Rattle.settings.specs.declared.table.Kind.{Kind}
+use Rattle.settings.specs.declared.table.Kind.the-variants.{OfWhole, OfFactor, OfThreshold}
+use Rattle.lines.specs.Words.{fault}
 use Rattle.lines.specs.declared.verdict.Field.{Field}
-use Rattle.lines.specs.declared.verdict.Field.the-variants.{Held, Malformed, Faulty}
+use Rattle.lines.specs.declared.verdict.Field.the-variants.{Held, Faulty}
 
--- "0100 no hardware, 0010 inadmissible parameter, 0001 syntax"
-abbrev pub errorWord : Fault → ℕ
-errorWord Syntax = 1
-errorWord Parameter = 10
-errorWord Hardware = 100
-
--- "value of every field .., 0010, or 0100 where it needs channel 2 on a 361"
+-- "value of every field .., 0010, or 0100 where it needs channel 2 on a 361": above the model's most, and not above what two channels have
 unfoldable pub limited : Limits → ℕ → Field
 limited l n =
     cond (inRange (l .least) (l .most) n) (Held (plain n))
-    (cond (inRange (l .least) (l .reach) n) (Faulty Hardware) (Faulty Parameter))
+    (cond (inRange (l .least) (l .paired) n) (Faulty (fault 100)) (Faulty (fault 10)))
 
--- a number that is malformed is a fault of form
+-- a number, or the error word of what is none
 abbrev pub ranged : Limits → Numeral → Field
-ranged l NoNumber = Malformed
+ranged l NoNumber = Faulty (fault (numeralFault NoNumber))
 ranged l (Number n) = limited l n
 
 -- "zero, or a result outside 1.0000E-20 to 9.9999E+20, is 0010"
 abbrev pub thresholdField : ThresholdNumeral → Field
-thresholdField NoThreshold = Malformed
-thresholdField OutOfRange = Faulty Parameter
+thresholdField NoThreshold = Faulty (fault (thresholdFault NoThreshold))
+thresholdField OutOfRange = Faulty (fault (thresholdFault OutOfRange))
 thresholdField (Within t) = Held t
 
 -- a field read by its kind

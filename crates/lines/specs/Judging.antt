@@ -4,26 +4,26 @@
 use Prim.Native.Nat.{ℕ}
 use mathlib.Core.List.{List, [], _∷_, map}
 use mathlib.Core.Bool.{cond}
-use lib.Dec.{eqb, ltb}
-use lib.ListN.{length, getD}
+use lib.Dec.{eqb}
+use lib.ListN.{length}
 use Rattle.numbers.specs.declared.threshold.Threshold.{Threshold}
-use Rattle.settings.specs.Models.{channels}
-use Rattle.settings.specs.Mnemonics.{recognised, channelOf}
-use Rattle.settings.specs.Kinds.{kinds}
-use Rattle.settings.specs.Rows.{plain, pairRow, stored}
+use Rattle.settings.specs.Cells.{plain, rowOf}
+use Rattle.settings.specs.Table.{entry, kinds}
+use Rattle.settings.specs.Mnemonics.{recognised, isThere}
+use Rattle.settings.specs.Rows.{stored}
 use Rattle.settings.specs.declared.model.Model.{Model}
 use Rattle.settings.specs.declared.mnemonic.Mnemonic.{Mnemonic}
-use Rattle.settings.specs.declared.mnemonic.Mnemonic.the-variants.{OfSetting, Cf, OfQuery, Com, Sav}
+use Rattle.settings.specs.declared.mnemonic.Mnemonic.the-variants.{OfReplying, Com, Sav}
 use Rattle.settings.specs.declared.mnemonic.Named.{Named}
 use Rattle.settings.specs.declared.mnemonic.Named.the-variants.{Known, Unknown}
-use Rattle.settings.specs.declared.kinds.Kind.{Kind}
-use Rattle.settings.specs.declared.rows.Row.{Row}
+use Rattle.settings.specs.declared.table.Kind.{Kind}
 use Rattle.settings.specs.declared.Settings.{Settings}
 use Rattle.lines.specs.Splitting.{fields}
+use Rattle.lines.specs.Words.{fault}
 use Rattle.lines.specs.Fields.{read}
-use Rattle.lines.specs.declared.verdict.Fault.the-variants.{Syntax, Hardware}
+use Rattle.lines.specs.declared.verdict.Fault.the-variants.{Syntax, Parameter, Hardware}
 use Rattle.lines.specs.declared.verdict.Field.{Field}
-use Rattle.lines.specs.declared.verdict.Field.the-variants.{Held, Malformed, Faulty}
+use Rattle.lines.specs.declared.verdict.Field.the-variants.{Held, Faulty}
 use Rattle.lines.specs.declared.verdict.Verdict.{Verdict}
 use Rattle.lines.specs.declared.verdict.Verdict.the-variants.{Asks, Writes, Refused}
 
@@ -35,9 +35,10 @@ fieldsRead (k ∷ ks) (f ∷ fs) = read k f ∷ fieldsRead ks fs
 
 -- a malformed field is refused, whatever else would be said
 abbrev pub formOr : Field → Verdict → Verdict
-formOr Malformed v = Refused Syntax
 formOr (Held c) v = v
-formOr (Faulty x) v = v
+formOr (Faulty Syntax) v = Refused (fault 1)
+formOr (Faulty Parameter) v = v
+formOr (Faulty Hardware) v = v
 
 -- "form of every field, left to right, 0001"
 unfoldable pub formed : List Field → Verdict → Verdict
@@ -46,9 +47,8 @@ formed (r ∷ rs) v = formOr r (formed rs v)
 
 -- a field with a fault of value is refused with it
 abbrev pub valueOr : Field → Verdict → Verdict
-valueOr (Faulty x) v = Refused x
 valueOr (Held c) v = v
-valueOr Malformed v = v
+valueOr (Faulty x) v = Refused x
 
 -- "value of every field, left to right"
 unfoldable pub valued : List Field → Verdict → Verdict
@@ -58,48 +58,41 @@ valued (r ∷ rs) v = valueOr r (valued rs v)
 -- the cell that a field holds
 abbrev pub cellOf : Field → Threshold
 cellOf (Held c) = c
-cellOf Malformed = plain 0
 cellOf (Faulty x) = plain 0
-
--- up to three cells as a row
-abbrev pub rowOf : List Threshold → Row
-rowOf cs = record { first = getD cs 0 (plain 0); second = getD cs 1 (plain 0); third = getD cs 2 (plain 0) }
 
 -- the form of all fields, then the value of each, then what the line writes
 abbrev pub judgedFields : Mnemonic → List Field → Verdict
 judgedFields m rs = formed rs (valued rs (Writes m (rowOf (map cellOf rs))))
 
--- "With no comma the line asks for the setting; only COM (0 to 2) and SAV (0 to 1) then have a default": "COM alone is 1", "SAV with 0 or nothing"
-abbrev pub alone : Mnemonic → Verdict
-alone (OfSetting x) = Asks (OfSetting x)
-alone (Cf k) = Asks (Cf k)
-alone (OfQuery q) = Asks (OfQuery q)
-alone Com = Writes Com (pairRow 1 0)
-alone Sav = Writes Sav (pairRow 0 0)
+-- "With no comma the line asks for the setting; only COM (0 to 2) and SAV (0 to 1) then have a default"
+abbrev pub alone : Model → Mnemonic → Verdict
+alone model (OfReplying a) = Asks a
+alone model Com = Writes Com (entry Com .default model)
+alone model Sav = Writes Sav (entry Sav .default model)
 
 -- "number of fields, 0001", then their form and their value
 unfoldable pub withFields : Model → Mnemonic → List (List ℕ) → Verdict
-withFields model m [] = alone m
+withFields model m [] = alone model m
 withFields model m (f ∷ fs) =
-    cond (eqb (length (f ∷ fs)) (length (kinds model m))) (judgedFields m (fieldsRead (kinds model m) (f ∷ fs))) (Refused Syntax)
+    cond (eqb (length (f ∷ fs)) (length (kinds model m))) (judgedFields m (fieldsRead (kinds model m) (f ∷ fs))) (Refused (fault 1))
 
 -- "mnemonic unknown .., 0001; PR2 or CF2 on a 361, 0100"
 abbrev pub named : Model → Named → List (List ℕ) → Verdict
-named model Unknown fs = Refused Syntax
-named model (Known m) fs = cond (ltb (channelOf m) (channels model)) (withFields model m fs) (Refused Hardware)
+named model Unknown fs = Refused (fault 1)
+named model (Known m) fs = cond (isThere model m) (withFields model m fs) (Refused (fault 100))
 
 -- the mnemonic ends at "a comma or the end"
 abbrev pub parted : Model → List (List ℕ) → Verdict
-parted model [] = Refused Syntax
+parted model [] = Refused (fault 1)
 parted model (n ∷ fs) = named model (recognised model n) fs
 
 -- "bad or empty line, 0001", then the other tests in their order; a bad line holds nothing
 unfoldable pub judged : Model → List ℕ → Verdict
-judged model [] = Refused Syntax
+judged model [] = Refused (fault 1)
 judged model (b ∷ line) = parted model (fields (b ∷ line))
 
 -- what a line does to the settings: only one that writes changes any of them
 abbrev pub effect : Model → Settings → Verdict → Settings
-effect model s (Asks m) = s
+effect model s (Asks a) = s
 effect model s (Writes m r) = stored model s m r
 effect model s (Refused x) = s

@@ -2,13 +2,13 @@
 use Prim.Native.Nat.{ℕ}
 use mathlib.Core.List.{List, [], _∷_}
 use Rattle.numbers.specs.declared.threshold.Threshold.{Threshold}
-use Rattle.settings.specs.Kinds.{kinds}
+use Rattle.settings.specs.Table.{kinds}
+use Rattle.settings.specs.Mnemonics.{setting}
 use Rattle.settings.specs.Rows.{cells}
 use Rattle.settings.specs.declared.model.Model.{Model}
 use Rattle.settings.specs.declared.mnemonic.Setting.{Setting}
 use Rattle.settings.specs.declared.mnemonic.Setting.the-variants.{Cal}
-use Rattle.settings.specs.declared.mnemonic.Mnemonic.the-variants.{OfSetting}
-use Rattle.settings.specs.declared.kinds.Kind.{Kind}
+use Rattle.settings.specs.declared.table.Kind.{Kind}
 use Rattle.settings.specs.declared.Settings.{Settings}
 use Rattle.lines.specs.Splitting.{joined}
 use Rattle.lines.specs.Fields.{write}
@@ -21,7 +21,7 @@ texts (k ∷ ks) (c ∷ cs) = write k c ∷ texts ks cs
 
 -- the cells that the model has of a setting, commas between
 unfoldable pub settingText : Model → Settings → Setting → List ℕ
-settingText model s x = joined (texts (kinds model (OfSetting x)) (cells model s x))
+settingText model s x = joined (texts (kinds model (setting x)) (cells model s x))
 
 -- "CFx takes one factor and answers one per channel": those of CAL
 abbrev pub factorsText : Model → Settings → List ℕ

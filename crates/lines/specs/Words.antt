@@ -1,16 +1,41 @@
 -- The error word (01, "Bytes from the host").
-use Prim.Native.Nat.{ℕ}
-use Prim.Native.Char.{code}
+use Prim.Native.Nat.{ℕ, _+_}
 use mathlib.Core.List.{List, [], _∷_}
-use mathlib.Core.Bool.{true, false}
-use Rattle.text.specs.Digits.{binary}
+use mathlib.Core.Bool.{Bool, true, false, cond}
+use lib.Dec.{eqb}
+use Rattle.text.specs.Digits.{paddedText}
 use Rattle.lines.specs.declared.verdict.Fault.{Fault}
 use Rattle.lines.specs.declared.verdict.Fault.the-variants.{Syntax, Parameter, Hardware}
 use Rattle.lines.specs.declared.word.Word.{Word}
 
--- "The error word is four digits: 0100 no hardware, 0010 inadmissible parameter, 0001 syntax"; "1000 never arises here."
+-- "0100 no hardware, 0010 inadmissible parameter, 0001 syntax"
+abbrev pub errorWord : Fault → ℕ
+errorWord Syntax = 1
+errorWord Parameter = 10
+errorWord Hardware = 100
+
+-- one more fault in front, if it is the one
+abbrev pub chosen : Bool → Fault → (A : Type 0) × A → (A : Type 0) × A
+chosen true x r = (Fault, x)
+chosen false x r = r
+
+-- the fault of a word, with its type: a word that is no fault's has none
+abbrev pub worded : ℕ → List Fault → (A : Type 0) × A
+worded w [] = (Unit {0}, tt)
+worded w (x ∷ xs) = chosen (eqb (errorWord x) w) x (worded w xs)
+
+-- `fault 10` is one; `fault 11` is of another type
+abbrev pub fault : (w : ℕ) → worded w (Syntax ∷ Parameter ∷ Hardware ∷ []) .0
+fault w = worded w (Syntax ∷ Parameter ∷ Hardware ∷ []) .1
+
+-- the digits that are set; "1000 never arises here."
+abbrev pub wordNumber : Word → ℕ
+wordNumber w =
+    cond (w .hardware) (errorWord Hardware) 0 + cond (w .parameter) (errorWord Parameter) 0 + cond (w .syntax) (errorWord Syntax) 0
+
+-- "The error word is four digits"
 abbrev pub wordText : Word → List ℕ
-wordText w = code "0" ∷ binary (w .hardware) ∷ binary (w .parameter) ∷ binary (w .syntax) ∷ []
+wordText w = paddedText (wordNumber w) 4
 
 -- "then it is 0000"
 abbrev pub noError : Word

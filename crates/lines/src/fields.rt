@@ -13,9 +13,9 @@ use numerals::exponential::read_threshold;
 use numerals::whole::Numeral;
 use numerals::whole::read_factor;
 use numerals::whole::read_whole;
-use settings::kinds::Kind;
-use settings::kinds::Limits;
 use settings::rows::plain;
+use settings::table::Kind;
+use settings::table::Limits;
 use text::spans::end_of;
 
 // Where the field that starts at a ends: at the next comma, or at the end of the line.
@@ -49,7 +49,7 @@ fn limited(l: Limits, n: u32) -> Field
     if inside {
         return Field::Held(plain(n));
     }
-    let there = (l.least <= n) & (n <= l.reach);
+    let there = (l.least <= n) & (n <= l.paired);
     if there {
         return Field::Faulty(Fault::Hardware);
     }
@@ -60,7 +60,7 @@ fn ranged(l: Limits, t: Numeral) -> Field
     ensures { λ r. ⌜ r ≡ ranged l t ⌝ }
 {
     match t {
-        Numeral::NoNumber => Field::Malformed,
+        Numeral::NoNumber => Field::Faulty(Fault::Syntax),
         Numeral::Number(n) => limited(l, n),
     }
 }
@@ -69,7 +69,7 @@ fn threshold_field(t: ThresholdNumeral) -> Field
     ensures { λ r. ⌜ r ≡ thresholdField t ⌝ }
 {
     match t {
-        ThresholdNumeral::NoThreshold => Field::Malformed,
+        ThresholdNumeral::NoThreshold => Field::Faulty(Fault::Syntax),
         ThresholdNumeral::OutOfRange => Field::Faulty(Fault::Parameter),
         ThresholdNumeral::Within(c) => Field::Held(c),
     }

@@ -15,29 +15,23 @@ use crate::verdict::conclude;
 use settings::mnemonic::Mnemonic;
 use settings::mnemonic::Named;
 use settings::model::Model;
-use settings::rows::pair_row;
-
-// What COM and SAV write with no comma.
-const COM_ALONE: u32 = 1;
-
-const SAV_ALONE: u32 = 0;
 
 // The fields from a on, for a mnemonic that the model has.
 fn judge_fields(model: Model, m: Mnemonic, s: &[u8], a: usize) -> Verdict
     requires { ⌜ a ≤ length (now s) ⌝ }
     ensures { λ r. ⌜ r ≡ withFields model m (fields (drop a (now (s .entry)))) ⌝ }
 {
-    let ks = model.shape(m);
-    let n = ks.count;
+    let e = model.entry(m);
+    let f = e.fields;
+    let n = f.count;
     if count_fields(s, a) == n {
-        let first = ks.first;
-        let second = ks.second;
-        let third = ks.third;
+        let first = f.first;
+        let others = f.others;
         let x = take_field(0 < n, first, s, a);
         let b = x.next;
-        let y = take_field(1 < n, second, s, b);
+        let y = take_field(1 < n, others, s, b);
         let c = y.next;
-        let z = take_field(2 < n, third, s, c);
+        let z = take_field(2 < n, others, s, c);
         let f = x.field;
         let g = y.field;
         let h = z.field;
@@ -46,16 +40,16 @@ fn judge_fields(model: Model, m: Mnemonic, s: &[u8], a: usize) -> Verdict
     Verdict::Refused(Fault::Syntax)
 }
 
-// A mnemonic with no comma behind it.
-fn judge_alone(m: Mnemonic) -> Verdict
-    ensures { λ r. ⌜ r ≡ alone m ⌝ }
+// A mnemonic with no comma behind it: it asks, or writes its default.
+fn judge_alone(model: Model, m: Mnemonic) -> Verdict
+    ensures { λ r. ⌜ r ≡ alone model m ⌝ }
 {
+    let e = model.entry(m);
+    let default = e.default;
     match m {
-        Mnemonic::OfSetting(_) => Verdict::Asks(m),
-        Mnemonic::Cf(_) => Verdict::Asks(m),
-        Mnemonic::OfQuery(_) => Verdict::Asks(m),
-        Mnemonic::Com => Verdict::Writes(m, pair_row(COM_ALONE, 0)),
-        Mnemonic::Sav => Verdict::Writes(m, pair_row(SAV_ALONE, 0)),
+        Mnemonic::OfReplying(a) => Verdict::Asks(a),
+        Mnemonic::Com => Verdict::Writes(m, default),
+        Mnemonic::Sav => Verdict::Writes(m, default),
     }
 }
 
@@ -64,12 +58,11 @@ fn judge_known(model: Model, m: Mnemonic, s: &[u8], e: usize) -> Verdict
     requires { ⌜ e ≡ length (word (now s)) ⌝ }
     ensures { λ r. ⌜ r ≡ named model (Known m) (drop 1 (fields (now (s .entry)))) ⌝ }
 {
-    let channel = m.channel() as usize;
-    if channel < model.channels() {
+    if model.has(m) {
         if e < s.len() {
             return judge_fields(model, m, s, e + 1);
         }
-        return judge_alone(m);
+        return judge_alone(model, m);
     }
     Verdict::Refused(Fault::Hardware)
 }

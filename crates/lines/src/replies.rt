@@ -9,10 +9,11 @@ ghost use Rattle.lines.specs.Walk.{more};
 use numbers::threshold::Threshold;
 use numerals::writing::write_threshold;
 use settings::Settings;
-use settings::kinds::Kind;
 use settings::mnemonic::Mnemonic;
+use settings::mnemonic::Replying;
 use settings::mnemonic::Setting;
 use settings::model::Model;
+use settings::table::Kind;
 use text::append;
 use text::control::CR;
 use text::control::LF;
@@ -45,18 +46,18 @@ fn write_more(out: &mut [u8], at: usize, has: bool, kind: Kind, cell: Threshold)
 fn write_setting(out: &mut [u8], at: usize, model: Model, s: Settings, x: Setting) -> usize
     ensures { λ r. ⌜ page (now (out .exit)) r ≡ puts (page (now (out .entry)) at) (settingText model s x) ⌝ }
 {
-    let ks = model.shape(Mnemonic::OfSetting(x));
-    let n = ks.count;
-    let first = ks.first;
-    let second = ks.second;
-    let third = ks.third;
+    let e = model.entry(Mnemonic::OfReplying(Replying::OfSetting(x)));
+    let f = e.fields;
+    let n = f.count;
+    let first = f.first;
+    let others = f.others;
     let r = s.row(x);
     if n == 0 {
         return at;
     }
     let a = write_cell(out, at, first, r.first);
-    let b = write_more(out, a, 1 < n, second, r.second);
-    write_more(out, b, 2 < n, third, r.third)
+    let b = write_more(out, a, 1 < n, others, r.second);
+    write_more(out, b, 2 < n, others, r.third)
 }
 
 // CR LF.

@@ -4,6 +4,7 @@ ghost use mathlib.Core.List.{[], _∷_};
 ghost use Rattle.lines.specs.Judging.{formOr, valueOr, cellOf, judgedFields};
 use numbers::threshold::Threshold;
 use settings::mnemonic::Mnemonic;
+use settings::mnemonic::Replying;
 use settings::rows::Row;
 use settings::rows::plain;
 
@@ -14,15 +15,14 @@ pub enum Fault {
     Hardware,
 }
 
-// A field that was read: its cell, a fault of form, or one of value.
+// A field that was read: its cell, or its fault, of form or of value.
 pub enum Field {
     Held(Threshold),
-    Malformed,
     Faulty(Fault),
 }
 
 pub enum Verdict {
-    Asks(Mnemonic),
+    Asks(Replying),
     Writes(Mnemonic, Row),
     Refused(Fault),
 }
@@ -31,9 +31,12 @@ fn form_or(f: Field, v: Verdict) -> Verdict
     ensures { λ r. ⌜ r ≡ formOr f v ⌝ }
 {
     match f {
-        Field::Malformed => Verdict::Refused(Fault::Syntax),
         Field::Held(_) => v,
-        Field::Faulty(_) => v,
+        Field::Faulty(x) => match x {
+            Fault::Syntax => Verdict::Refused(x),
+            Fault::Parameter => v,
+            Fault::Hardware => v,
+        },
     }
 }
 
@@ -41,9 +44,8 @@ fn value_or(f: Field, v: Verdict) -> Verdict
     ensures { λ r. ⌜ r ≡ valueOr f v ⌝ }
 {
     match f {
-        Field::Faulty(x) => Verdict::Refused(x),
         Field::Held(_) => v,
-        Field::Malformed => v,
+        Field::Faulty(x) => Verdict::Refused(x),
     }
 }
 
@@ -52,7 +54,6 @@ fn cell_of(f: Field) -> Threshold
 {
     match f {
         Field::Held(c) => c,
-        Field::Malformed => plain(0),
         Field::Faulty(_) => plain(0),
     }
 }

@@ -7,8 +7,10 @@ use Rattle.settings.specs.Models.{powerOnMode}
 use Rattle.settings.specs.Mnemonics.{isErr}
 use Rattle.settings.specs.declared.model.Model.{Model}
 use Rattle.settings.specs.declared.mnemonic.Query.the-variants.{Err}
+use Rattle.settings.specs.declared.mnemonic.Replying.{Replying}
+use Rattle.settings.specs.declared.mnemonic.Replying.the-variants.{OfQuery}
 use Rattle.settings.specs.declared.mnemonic.Mnemonic.{Mnemonic}
-use Rattle.settings.specs.declared.mnemonic.Mnemonic.the-variants.{OfSetting, Cf, OfQuery, Com, Sav}
+use Rattle.settings.specs.declared.mnemonic.Mnemonic.the-variants.{OfReplying, Com, Sav}
 use Rattle.lines.specs.Words.{noError, gathered}
 use Rattle.lines.specs.Judging.{judged}
 use Rattle.lines.specs.declared.word.Word.{Word}
@@ -79,9 +81,7 @@ withChoice p selection error = record {
 
 -- "selects its mnemonic; after COM and SAV the selection is none"
 abbrev pub selected : Mnemonic → Selection
-selected (OfSetting x) = Chosen (OfSetting x)
-selected (Cf k) = Chosen (Cf k)
-selected (OfQuery q) = Chosen (OfQuery q)
+selected (OfReplying a) = Chosen a
 selected Com = Nothing
 selected Sav = Nothing
 
@@ -95,7 +95,7 @@ refused p x = withChoice p Nothing (gathered (p .error) x)
 
 -- a line that asks, one that writes, which can begin the stream, one that is refused
 unfoldable pub concluded : Port → Verdict → Port
-concluded p (Asks m) = accepted p m
+concluded p (Asks a) = accepted p (OfReplying a)
 concluded p (Writes m r) = begun (accepted p m) m r
 concluded p (Refused x) = refused p x
 
@@ -112,13 +112,13 @@ abbrev pub worded : Port → Heard
 worded p = record { port = dropped p noError; event = Reply (OfQuery Err) (p .error) }
 
 -- "sends the selected mnemonic's reply, as often as asked"; the error word is sent "through ERR" too
-abbrev pub replied : Port → Mnemonic → Heard
-replied p m = record { port = cond (isErr m) (withChoice p (Chosen m) noError) p; event = Reply m (p .error) }
+abbrev pub replied : Port → Replying → Heard
+replied p a = record { port = cond (isErr a) (withChoice p (Chosen a) noError) p; event = Reply a (p .error) }
 
 -- with a selection, or with none
 abbrev pub bySelection : Port → Selection → Heard
 bySelection p Nothing = worded p
-bySelection p (Chosen m) = replied p m
+bySelection p (Chosen a) = replied p a
 
 -- "ENQ on an empty line"; "With no selection, or on a line that is not empty (bad ones too)"
 unfoldable pub asked : Port → Heard

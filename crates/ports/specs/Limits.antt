@@ -31,7 +31,7 @@ streamWithin p = eqb (p .interval) 0 && eqb (p .ticks) 0 || isInterval (p .inter
 -- "a selection that the model can answer"
 abbrev pub selectionWithin : Model → Selection → Bool
 selectionWithin model Nothing = true
-selectionWithin model (Chosen m) = answers model m
+selectionWithin model (Chosen a) = answers model a
 
 -- all limits of a port
 unfoldable pub portWithin : Model → Port → Bool

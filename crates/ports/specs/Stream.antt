@@ -4,9 +4,9 @@ use mathlib.Core.List.{[], _∷_}
 use mathlib.Core.Bool.{true, false, cond}
 use lib.ListN.{getD}
 use lib.Dec.{eqb, ltb}
-use Rattle.settings.specs.Rows.{firstNumber}
+use Rattle.settings.specs.Cells.{firstNumber}
 use Rattle.settings.specs.declared.mnemonic.Mnemonic.{Mnemonic}
-use Rattle.settings.specs.declared.mnemonic.Mnemonic.the-variants.{OfSetting, Cf, OfQuery, Com, Sav}
+use Rattle.settings.specs.declared.mnemonic.Mnemonic.the-variants.{OfReplying, Com, Sav}
 use Rattle.settings.specs.declared.rows.Row.{Row}
 use Rattle.ports.specs.declared.Port.{Port}
 use Rattle.ports.specs.declared.Ticked.{Ticked}
@@ -34,9 +34,7 @@ stopped p = withStream p 0 0
 
 -- "an accepted COM line then starts it at its CR, the tick count at 0"; no other line does
 abbrev pub begun : Port → Mnemonic → Row → Port
-begun p (OfSetting x) r = p
-begun p (Cf k) r = p
-begun p (OfQuery q) r = p
+begun p (OfReplying a) r = p
 begun p Com r = withStream p (intervalOf (firstNumber r)) 0
 begun p Sav r = p
 

@@ -19,7 +19,7 @@ heldCount p = cond (p .bad) 0 (min (p .len) 80)
 -- whether a selection answers "as often as asked" with nothing changed: any but ERR, whose word is gone once it is sent
 abbrev pub again : Selection → Bool
 again Nothing = false
-again (Chosen m) = not (isErr m)
+again (Chosen a) = not (isErr a)
 
 -- so on "an empty line"
 abbrev pub repeats : Port → Bool

@@ -13,6 +13,7 @@ use lines::verdict::Verdict;
 use lines::word::Word;
 use settings::mnemonic::Mnemonic;
 use settings::mnemonic::Query;
+use settings::mnemonic::Replying;
 use settings::model::Model;
 use text::control::CR;
 use text::control::ENQ;
@@ -58,9 +59,7 @@ fn selects(m: Mnemonic) -> Selection
     ensures { λ r. ⌜ r ≡ selected m ⌝ }
 {
     match m {
-        Mnemonic::OfSetting(_) => Selection::Chosen(m),
-        Mnemonic::Cf(_) => Selection::Chosen(m),
-        Mnemonic::OfQuery(_) => Selection::Chosen(m),
+        Mnemonic::OfReplying(a) => Selection::Chosen(a),
         Mnemonic::Com => Selection::Nothing,
         Mnemonic::Sav => Selection::Nothing,
     }
@@ -127,7 +126,7 @@ impl Port {
         ensures { λ r. ⌜ r ≡ concluded self v ⌝ }
     {
         match v {
-            Verdict::Asks(m) => self.accepted(m),
+            Verdict::Asks(a) => self.accepted(Mnemonic::OfReplying(a)),
             Verdict::Writes(m, r) => self.accepted(m).begun(m, r),
             Verdict::Refused(x) => self.refused(x),
         }
@@ -152,26 +151,26 @@ impl Port {
     }
 
     // The mnemonic whose reply an ENQ sends: the selected one on an empty line, else ERR's, the error word.
-    pub fn enquiry(self) -> Mnemonic
+    pub fn enquiry(self) -> Replying
         ensures { λ r. ⌜ Reply r (self .error) ≡ asked self .event ⌝ }
     {
         let selection = self.selection;
         if self.is_empty() {
             match selection {
-                Selection::Nothing => Mnemonic::OfQuery(Query::Err),
-                Selection::Chosen(m) => m,
+                Selection::Nothing => Replying::OfQuery(Query::Err),
+                Selection::Chosen(a) => a,
             }
         } else {
-            Mnemonic::OfQuery(Query::Err)
+            Replying::OfQuery(Query::Err)
         }
     }
 
     // After the reply of a selection: sent through ERR, the word is gone.
-    fn replied(self, m: Mnemonic) -> Port
-        ensures { λ r. ⌜ r ≡ replied self m .port ⌝ }
+    fn replied(self, a: Replying) -> Port
+        ensures { λ r. ⌜ r ≡ replied self a .port ⌝ }
     {
-        let selection = Selection::Chosen(m);
-        if m.is_err() {
+        let selection = Selection::Chosen(a);
+        if a.is_err() {
             return self.with_choice(selection, Word::none());
         }
         self
@@ -185,7 +184,7 @@ impl Port {
         if self.is_empty() {
             match selection {
                 Selection::Nothing => self.dropped(Word::none()),
-                Selection::Chosen(m) => self.replied(m),
+                Selection::Chosen(a) => self.replied(a),
             }
         } else {
             self.dropped(Word::none())
@@ -199,7 +198,7 @@ impl Port {
         let selection = self.selection;
         match selection {
             Selection::Nothing => false,
-            Selection::Chosen(m) => self.is_empty() & !m.is_err(),
+            Selection::Chosen(a) => self.is_empty() & !a.is_err(),
         }
     }
 

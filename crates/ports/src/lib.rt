@@ -1,7 +1,7 @@
 // What one host owns of a box: its line, its selection, its error word and its stream.
 use lines::verdict::Verdict;
 use lines::word::Word;
-use settings::mnemonic::Mnemonic;
+use settings::mnemonic::Replying;
 
 pub mod hearing;
 pub mod limits;
@@ -12,7 +12,7 @@ pub mod typing;
 // The mnemonic that an ENQ is answered with.
 pub enum Selection {
     Nothing,
-    Chosen(Mnemonic),
+    Chosen(Replying),
 }
 
 pub struct Port {
@@ -41,7 +41,7 @@ pub enum Event {
     // a line has ended
     Line(Verdict),
     // an ENQ is answered; with the error word as it stood
-    Reply(Mnemonic, Word),
+    Reply(Replying, Word),
 }
 
 pub struct Heard {

@@ -55,7 +55,7 @@ impl Port {
         let selection = self.selection;
         match selection {
             Selection::Nothing => true,
-            Selection::Chosen(m) => model.answers(m),
+            Selection::Chosen(a) => model.answers(a),
         }
     }
 

@@ -41,9 +41,7 @@ impl Port {
         ensures { λ x. ⌜ x ≡ begun self m r ⌝ }
     {
         match m {
-            Mnemonic::OfSetting(_) => self,
-            Mnemonic::Cf(_) => self,
-            Mnemonic::OfQuery(_) => self,
+            Mnemonic::OfReplying(_) => self,
             Mnemonic::Com => {
                 let a = r.first;
                 self.with_stream(interval_of(a.mantissa), 0)

@@ -62,7 +62,7 @@ setting-known model x = by x
     by (Stored k) = ⊎-elim (λ (l : k < 11). here (Stored k) (kept k l)) (λ (g : 11 ≤ k). none (Stored k) (stored-past k g)) (below k 11)
 
 -- every model has a first channel
-first-there : (model : Model) → ltb 0 (channels model) ≡ true
+pub first-there : (model : Model) → ltb 0 (channels model) ≡ true
 unfolding every
 first-there = tested (λ model. ltb 0 (channels model)) refl
 

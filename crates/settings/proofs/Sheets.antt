@@ -70,18 +70,20 @@ held-holding = each-map (λ x. holds x ≡ true) Holding holds-holding held (eve
 
 -- ---- the sheet: those of them that the model takes
 
-pub sheet-holding : (model : Model) → Each Holding (sheet model)
-unfolding sheet
-sheet-holding model = each-those Holding (takes model) held held-holding
+pub record OnSheet (model : Model) (x : Setting) : Type 0 where
+  pub holding : Holding x
+  pub taken : takes model x ≡ true
 
-pub sheet-taken : (model : Model) → Each (λ x. takes model x ≡ true) (sheet model)
+pub sheet-holds : (model : Model) → Each (OnSheet model) (sheet model)
 unfolding sheet
-sheet-taken model = those-each (takes model) held
+sheet-holds model =
+    each-both Holding (λ x. takes model x ≡ true) (OnSheet model) (λ x h t. record { holding = h; taken = t }) (those (takes model) held)
+    (each-those Holding (takes model) held held-holding) (those-each (takes model) held)
 
 -- what holds over the sheet holds of every setting that the model takes
-pub on-sheet : (P : Setting → Type 0) (model : Model) → Each P (sheet model) → (x : Setting) → Holding x → takes model x ≡ true → P x
+pub on-sheet : (P : Setting → Type 0) (model : Model) → Each P (sheet model) → {x : Setting} → OnSheet model x → P x
 unfolding sheet
-on-sheet P model e x h = held-each (λ y. takes model y ≡ true → P y) (each-taken P (takes model) held e) x h
+on-sheet P model e {x} o = held-each (λ y. takes model y ≡ true → P y) (each-taken P (takes model) held e) x (o .holding) (o .taken)
 
 -- and the others have no field, so no cell
 pub off-sheet : (model : Model) (s : Settings) (x : Setting) → takes model x ≡ false → cells model s x ≡ []
@@ -190,7 +192,7 @@ module _ (model : Model) (a b : Settings) (wa : within model a ≡ true) (wb : w
       agree : Each (λ x. cells model a x ≡ cells model b x) (sheet model) → (x : Setting) → Holding x → cells model a x ≡ cells model b x
       agree e x h =
           ⊎-elim (λ (n : takes model x ≡ false). off-sheet model a x n ∙ sym (off-sheet model b x n))
-          (on-sheet (λ y. cells model a y ≡ cells model b y) model e x h) (dichotomy (takes model x))
+          (λ (t : takes model x ≡ true). on-sheet (λ y. cells model a y ≡ cells model b y) model e (record { holding = h; taken = t })) (dichotomy (takes model x))
 
 -- ---- all that are known: those of the sheet, and the others
 

@@ -92,6 +92,9 @@ mixed-canon n r q x p e = by x p e
     by (Sp k) = at (λ c. plain (c .mantissa)) (λ c. c) (λ c. c)
     by (Stored k) = at (λ c. plain (c .mantissa)) (λ c. plain (c .mantissa)) (λ c. plain 0)
 
+pub mixed-front : (n : ℕ) (r q : Row) → n ≤ 3 → take n (listed (mixed n r q)) ≡ take n (listed r)
+mixed-front n r q = upto-three (λ m. take m (listed (mixed m r q)) ≡ take m (listed r)) refl refl refl refl n
+
 -- ---- storing
 
 module _ (b : Settings) (fs : List ℕ) where

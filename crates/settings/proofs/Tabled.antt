@@ -91,6 +91,9 @@ few model (OfReplying (OfQuery Err)) = omega arith
 few model Com = omega arith
 few model Sav = omega arith
 
+pub few-kinds : (f : Fields) → length (kindsOf f) ≤ 3
+few-kinds f = omega (arith, length-take (f .count) (f .first ∷ f .others ∷ f .others ∷ []))
+
 -- so there are as many kinds as the row counts
 pub count-kinds : (f : Fields) → f .count ≤ 3 → length (kindsOf f) ≡ f .count
 count-kinds f h = omega (arith, length-take (f .count) (f .first ∷ f .others ∷ f .others ∷ []))

@@ -1,4 +1,4 @@
--- Malformed stays malformed, out of range is a fault of the parameter, and what is within is held.
+-- What is no threshold has the fault of its case, and one within its stops is held.
 use borrow.Author.Needs.{needs}
 use Rattle.lines.proofs.fields.threshold_field.Statement.{statement}
 use Rattle.lines.proofs.fields.threshold_field.Tie as tie
@@ -13,7 +13,7 @@ enum-known-t : tie.Need-enum-known-t
 enum-known-t c = search needs
 
 returns : tie.Need-returns
-returns c = search needs
+returns c = rw (c .enum-told .given .1)
 
 returns-2 : tie.Need-returns-2
 returns-2 c = rw (c .enum-told2 .given .1)

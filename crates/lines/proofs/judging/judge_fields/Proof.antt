@@ -5,8 +5,8 @@ use Rattle.lines.proofs.Walking.{fields-judged, fields-wrong}
 use Rattle.lines.proofs.judging.judge_fields.Statement.{statement}
 use Rattle.lines.proofs.judging.judge_fields.Tie as tie
 
-shape-requires : tie.Need-shape-requires
-shape-requires c κs = search needs
+entry-requires : tie.Need-entry-requires
+entry-requires c κs = search needs
 
 count-fields-requires : tie.Need-count-fields-requires
 count-fields-requires c κs = search needs
@@ -29,24 +29,24 @@ returns c =
     let y = z .before in
     let x = y .before in
     let n = x .before .before in
-    let k = n .before .shape in
-    let a = n .before .before .before .args in
+    let e = n .before .before .entry in
+    let a = n .before .before .before .before .args in
     c .conclude .ensures
-    ∙ fields-judged (a .model) (a .m) (k .result) (k .ensures) (a .s .now) (a .a) (x .take-field .result) (y .take-field2 .result) (z .take-field3 .result)
+    ∙ fields-judged (a .model) (a .m) (e .result) (e .ensures) (a .s .now) (a .a) (x .take-field .result) (y .take-field2 .result) (z .take-field3 .result)
     (sym (n .count-fields .ensures) ∙ x .before .if1 .taken) (x .take-field .ensures) (y .take-field2 .ensures) (z .take-field3 .ensures)
 
 returns-2 : tie.Need-returns-2
 returns-2 c =
     let n = c .before in
-    let k = n .before .shape in
-    let a = n .before .before .before .args in
-    fields-wrong (a .model) (a .m) (k .result) (k .ensures) (a .s .now) (a .a) (λ e. c .if1 .left (n .count-fields .ensures ∙ e))
+    let e = n .before .before .entry in
+    let a = n .before .before .before .before .args in
+    fields-wrong (a .model) (a .m) (e .result) (e .ensures) (a .s .now) (a .a) (λ q. c .if1 .left (n .count-fields .ensures ∙ q))
 
 pub judge-fields-spec : {M : Type 1} → statement M
 judge-fields-spec =
     tie.close
     (tie.spec
-    shape-requires
+    entry-requires
     count-fields-requires
     take-field-requires
     take-field-requires-2

@@ -1,6 +1,8 @@
--- Four digits, as the word has them.
-use mathlib.Core.Path.{_∙_}
+-- Four digits, as the word has them (`word-digits`).
+use mathlib.Core.Path.{_∙_, ap}
 use borrow.Author.Needs.{needs}
+use Rattle.text.specs.Page.{page, puts}
+use Rattle.lines.proofs.Worded.{word-digits}
 use Rattle.lines.proofs.word.write_word.Statement.{statement}
 use Rattle.lines.proofs.word.write_word.Tie as tie
 
@@ -26,7 +28,9 @@ returns : tie.Need-returns
 returns c =
     let k = c .before .before in
     let d = k .before .before .before in
+    let a = d .before .before .before .before .args in
     k .append .ensures ∙ rw (d .binary3 .ensures, d .before .binary2 .ensures, d .before .before .binary .ensures)
+    (ap (puts (page (a .out .now) (a .at))) (word-digits (a .w .hardware) (a .w .parameter) (a .w .syntax)))
 
 pub write-word-spec : {M : Type 1} → statement M
 write-word-spec =

@@ -3,22 +3,22 @@ use Prim.Native.Nat.{ℕ, _≤_, _<_}
 use mathlib.Core.Path.{_≡_, refl, sym, ap, _∙_}
 use mathlib.Core.List.{List, _∷_, _++_}
 use native.Mathlib.Omega.{arith}
+use borrow.Author.Tests.{ltb-true}
 use Rattle.text.specs.Page.{put, puts, Page}
 use Rattle.text.proofs.Pages.{puts-append}
 use Rattle.settings.specs.Models.{channels}
 use Rattle.settings.specs.declared.model.Model.{Model}
-use Rattle.settings.specs.declared.model.Model.the-variants.{Tpg361, Tpg362}
+use Rattle.settings.proofs.Every.{channels-few}
+use Rattle.settings.proofs.Answerable.{first-there}
 use Rattle.instrument.specs.Replies.{eachChannel}
 
 two : (model : Model) (text : ℕ → List ℕ) → 1 < channels model → eachChannel model text ≡ text 0 ++ (44 ∷ text 1)
 unfolding eachChannel
-two Tpg361 text h = absurd (omega arith)
-two Tpg362 text h = refl
+two model text h = let e : channels model ≡ 2 = omega (arith, channels-few model) in rw e
 
 one : (model : Model) (text : ℕ → List ℕ) → channels model ≤ 1 → eachChannel model text ≡ text 0
 unfolding eachChannel
-one Tpg361 text h = refl
-one Tpg362 text h = absurd (omega arith)
+one model text h = let e : channels model ≡ 1 = omega (arith, ltb-true 0 (channels model) (first-there model)) in rw e
 
 module _ (model : Model) (text : ℕ → List ℕ) (t : Page) (n : ℕ) (e : n ≡ channels model) where
   -- two channels: a comma, and the second text

@@ -14,14 +14,17 @@ use Rattle.text.specs.Control.{crLf}
 use Rattle.gauges.specs.Readings.{noReading, withinLimits}
 use Rattle.gauges.specs.Shown.{shownOf}
 use Rattle.gauges.specs.declared.reading.Reading.{Reading}
-use Rattle.settings.specs.Models.{startsOn, defaults}
-use Rattle.settings.specs.Rows.{firstNumber}
+use Rattle.settings.specs.Models.{startsOn}
+use Rattle.settings.specs.Cells.{firstNumber}
+use Rattle.settings.specs.Table.{defaults}
+use Rattle.settings.specs.Mnemonics.{setting}
 use Rattle.settings.specs.Limits.{within}
 use Rattle.settings.specs.declared.model.Model.{Model}
 use Rattle.settings.specs.declared.model.Model.the-variants.{Tpg361, Tpg362}
 use Rattle.settings.specs.declared.mnemonic.Setting.the-variants.{Uni, Sp}
 use Rattle.settings.specs.declared.mnemonic.Query.the-variants.{Sps, Prx, Ayt}
-use Rattle.settings.specs.declared.mnemonic.Mnemonic.the-variants.{OfSetting, OfQuery, Sav}
+use Rattle.settings.specs.declared.mnemonic.Replying.the-variants.{OfQuery}
+use Rattle.settings.specs.declared.mnemonic.Mnemonic.the-variants.{Sav}
 use Rattle.settings.specs.declared.rows.Row.{Row}
 use Rattle.settings.specs.declared.Settings.{Settings}
 use Rattle.lines.specs.declared.word.Word.{Word}
@@ -53,7 +56,7 @@ module _ (s : Instrument) (channel : ℕ) (r : Reading) where
 -- ---- a line
 
 module _ (s : Instrument) (r : Row) where
-  pub unit-stored : applied s (Writes (OfSetting Uni) r) .settings .unit ≡ firstNumber r
+  pub unit-stored : applied s (Writes (setting Uni) r) .settings .unit ≡ firstNumber r
   unfolding written
   unit-stored = refl
 
@@ -61,7 +64,7 @@ module _ (s : Instrument) (r : Row) where
   unfolding written
   sav-zero e = rw e
 
-  pub assigned-on : (k : ℕ) → InstrumentShaped s → k ≤ 3 → firstNumber r ≡ 1 → isOn (applied s (Writes (OfSetting (Sp k)) r)) k ≡ true
+  pub assigned-on : (k : ℕ) → InstrumentShaped s → k ≤ 3 → firstNumber r ≡ 1 → isOn (applied s (Writes (setting (Sp k)) r)) k ≡ true
   unfolding written
   assigned-on k t h e = rw (getD-set-same (s .switches) k (startsOn (s .model) (firstNumber r)) false (omega (arith, t .switches)), e)
 

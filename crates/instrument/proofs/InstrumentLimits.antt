@@ -19,25 +19,28 @@ use Rattle.gauges.specs.Shown.{shownOf, switched}
 use Rattle.gauges.specs.declared.reading.Reading.{Reading}
 use Rattle.gauges.specs.declared.shown.Shown.{Shown}
 use Rattle.gauges.proofs.ReadingLimits.{none-within}
-use Rattle.settings.specs.Models.{channels, startsOn, follows, agrees, defaults}
-use Rattle.settings.specs.Rows.{noSwitching, row, firstNumber, switchingOf, mixed, stored}
+use Rattle.settings.specs.Models.{channels, startsOn, follows, agrees}
+use Rattle.settings.specs.Cells.{firstNumber, switchingOf, mixed}
+use Rattle.settings.specs.Table.{TableRow, kindsOf, defaults}
+use Rattle.settings.specs.Rows.{noSwitching, row, fieldCount, stored}
 use Rattle.settings.specs.Limits.{within, SettingsShaped}
 use Rattle.settings.specs.declared.model.Model.{Model}
 use Rattle.settings.specs.declared.model.Model.the-variants.{Tpg361, Tpg362}
-use Rattle.settings.specs.declared.mnemonic.Setting.{Setting}
-use Rattle.settings.specs.declared.mnemonic.Setting.the-variants.{Uni, Fil, Cal, Dcd, Sp, Stored}
+use Rattle.settings.specs.declared.mnemonic.Setting.the-variants.{Uni, Cal, Sp, Stored}
+use Rattle.settings.specs.declared.mnemonic.Replying.the-variants.{OfSetting, Cf, OfQuery}
 use Rattle.settings.specs.declared.mnemonic.Mnemonic.{Mnemonic}
-use Rattle.settings.specs.declared.mnemonic.Mnemonic.the-variants.{OfSetting, Cf, OfQuery, Com, Sav}
+use Rattle.settings.specs.declared.mnemonic.Mnemonic.the-variants.{OfReplying, Com, Sav}
 use Rattle.settings.specs.declared.rows.Row.{Row}
 use Rattle.settings.specs.declared.Switching.{Switching}
 use Rattle.settings.specs.declared.Settings.{Settings}
+use Rattle.settings.proofs.Tabled.{switching-there}
 use Rattle.settings.proofs.StoredLimits.{defaults-within, defaults-shaped}
 use Rattle.lines.specs.Judging.{judged, effect}
 use Rattle.lines.specs.declared.verdict.Fault.{Fault}
 use Rattle.lines.specs.declared.verdict.Verdict.{Verdict}
 use Rattle.lines.specs.declared.verdict.Verdict.the-variants.{Asks, Writes, Refused}
 use Rattle.lines.proofs.WrittenLimits.{effect-shaped, effect-within}
-use Rattle.instrument.specs.Events.{eachFour, functionAt, isOn, started, following, measured, savedBy, settingSwitches, switchesBy, written, applied}
+use Rattle.instrument.specs.Events.{eachFour, functionAt, isOn, started, following, measured, savedBy, switchesBy, written, applied}
 use Rattle.instrument.specs.Limits.{readingWithin, switchWithin, serialWithin, instrumentWithin, InstrumentShaped}
 use Rattle.instrument.specs.declared.Instrument.{Instrument}
 
@@ -154,30 +157,23 @@ module _ (s : Instrument) (channel : ℕ) (r : Reading) (t : InstrumentShaped s)
 module _ (s : Instrument) (r : Row) where
   -- what holds of the settings, of the saved set and of the defaults holds of what is saved
   saved-keeps : (P : Settings → Type 0) → P (s .settings) → P (s .saved) → P (defaults (s .model)) → (m : Mnemonic) → P (savedBy s m r)
-  saved-keeps P a b d (OfSetting x) = b
-  saved-keeps P a b d (Cf k) = b
-  saved-keeps P a b d (OfQuery q) = b
+  saved-keeps P a b d (OfReplying m) = b
   saved-keeps P a b d Com = b
   saved-keeps P a b d Sav = cond-cases P (eqb (firstNumber r) 0) (defaults (s .model)) (s .settings) (λ _. d) (λ _. a)
 
-  setting-count : (x : Setting) → length (settingSwitches s x r) ≡ length (s .switches)
-  setting-count Uni = refl
-  setting-count Fil = refl
-  setting-count Cal = refl
-  setting-count Dcd = refl
-  setting-count (Sp k) = length-set (s .switches) k (startsOn (s .model) (firstNumber r))
-  setting-count (Stored k) = refl
-
   switches-count : (m : Mnemonic) → length (switchesBy s m r) ≡ length (s .switches)
-  switches-count (OfSetting x) = setting-count x
-  switches-count (Cf k) = refl
-  switches-count (OfQuery q) = refl
+  switches-count (OfReplying (OfSetting (Sp k))) = length-set (s .switches) k (startsOn (s .model) (firstNumber r))
+  switches-count (OfReplying (OfSetting Uni)) = refl
+  switches-count (OfReplying (OfSetting Cal)) = refl
+  switches-count (OfReplying (OfSetting (Stored k))) = refl
+  switches-count (OfReplying (Cf k)) = refl
+  switches-count (OfReplying (OfQuery q)) = refl
   switches-count Com = refl
   switches-count Sav = refl
 
   module _ (t : InstrumentShaped s) (i : ℕ) (l : i ≤ 3) (h : status s i ≡ true) where
     -- after SPx that switching function is as it starts, and the others are as they were
-    assigned : (k : ℕ) (w : Switching) → w .assignment ≡ firstNumber r
+    assigned : (k : ℕ) (w : Switching) → (k < 4 → w .assignment ≡ firstNumber r)
         → switchWithin (s .model) (set (s .settings .switching) k w) (set (s .switches) k (startsOn (s .model) (firstNumber r))) i ≡ true
     assigned k w a = ⊎-elim (λ (n : eqb i k ≡ false). other (eqb-false i k n)) (λ (e : eqb i k ≡ true). same (eqb-true i k e)) (dichotomy (eqb i k))
       where
@@ -190,7 +186,7 @@ module _ (s : Instrument) (r : Row) where
               e,
               getD-set-same (s .settings .switching) k w noSwitching (omega (arith, t .settings .switching)),
               getD-set-same (s .switches) k on false (omega (arith, t .switches)),
-              a,
+              a (omega arith),
             )
             (starts-agree (s .model) (firstNumber r))
 
@@ -198,18 +194,18 @@ module _ (s : Instrument) (r : Row) where
         other n =
             rw (getD-set-other (s .settings .switching) k i w noSwitching n, getD-set-other (s .switches) k i on false n) h
 
-    setting-agrees : (x : Setting) → switchWithin (s .model) (stored (s .model) (s .settings) (OfSetting x) r .switching) (settingSwitches s x r) i ≡ true
-    setting-agrees Uni = h
-    setting-agrees Fil = h
-    setting-agrees Cal = h
-    setting-agrees Dcd = h
-    setting-agrees (Sp k) = assigned k (switchingOf (mixed 3 r (row (s .settings) (Sp k)))) refl
-    setting-agrees (Stored k) = h
+    -- a switching function has all three fields
+    assignment-is : (k : ℕ) → k < 4 → firstNumber (mixed (fieldCount (s .model) (Sp k)) r (row (s .settings) (Sp k))) ≡ firstNumber r
+    assignment-is k g =
+        ap (λ (e : TableRow). firstNumber (mixed (length (kindsOf (e .fields (s .model)))) r (row (s .settings) (Sp k)))) (switching-there k g)
 
     written-agrees : (m : Mnemonic) → switchWithin (s .model) (stored (s .model) (s .settings) m r .switching) (switchesBy s m r) i ≡ true
-    written-agrees (OfSetting x) = setting-agrees x
-    written-agrees (Cf k) = h
-    written-agrees (OfQuery q) = h
+    written-agrees (OfReplying (OfSetting (Sp k))) = assigned k (switchingOf (mixed (fieldCount (s .model) (Sp k)) r (row (s .settings) (Sp k)))) (assignment-is k)
+    written-agrees (OfReplying (OfSetting Uni)) = h
+    written-agrees (OfReplying (OfSetting Cal)) = h
+    written-agrees (OfReplying (OfSetting (Stored k))) = h
+    written-agrees (OfReplying (Cf k)) = h
+    written-agrees (OfReplying (OfQuery q)) = h
     written-agrees Com = h
     written-agrees Sav = h
 

@@ -20,20 +20,22 @@ use Rattle.numerals.specs.Writing.{scientific, valueText}
 use Rattle.gauges.specs.Shown.{shownOf, shownText}
 use Rattle.gauges.specs.Identification.{kindNames, kindName}
 use Rattle.gauges.specs.declared.shown.Shown.{Shown}
-use Rattle.settings.specs.Kinds.{kinds}
+use Rattle.settings.specs.Models.{channels}
+use Rattle.settings.specs.Table.{settingEntry, kinds}
+use Rattle.settings.specs.Mnemonics.{setting}
 use Rattle.settings.specs.Rows.{cells}
 use Rattle.settings.specs.declared.model.Model.{Model}
-use Rattle.settings.specs.declared.model.Model.the-variants.{Tpg361, Tpg362}
 use Rattle.settings.specs.declared.mnemonic.Setting.{Setting}
 use Rattle.settings.specs.declared.mnemonic.Setting.the-variants.{Cal}
 use Rattle.settings.specs.declared.mnemonic.Query.{Query}
 use Rattle.settings.specs.declared.mnemonic.Query.the-variants.{Sps, Pr, Prx, Tid, Ayt, Err}
-use Rattle.settings.specs.declared.mnemonic.Mnemonic.{Mnemonic}
-use Rattle.settings.specs.declared.mnemonic.Mnemonic.the-variants.{OfSetting, Cf, OfQuery, Com, Sav}
-use Rattle.settings.specs.declared.kinds.Kind.{Kind}
-use Rattle.settings.specs.declared.kinds.Kind.the-variants.{OfWhole, OfFactor, OfThreshold}
+use Rattle.settings.specs.declared.mnemonic.Replying.{Replying}
+use Rattle.settings.specs.declared.mnemonic.Replying.the-variants.{OfSetting, Cf, OfQuery}
+use Rattle.settings.specs.declared.table.Kind.{Kind}
+use Rattle.settings.specs.declared.table.Kind.the-variants.{OfWhole, OfFactor, OfThreshold}
 use Rattle.settings.specs.declared.Settings.{Settings}
-use Rattle.settings.proofs.Sheets.{few}
+use Rattle.settings.proofs.Every.{every-model}
+use Rattle.settings.proofs.Tabled.{few-kinds}
 use Rattle.lines.specs.Splitting.{joined}
 use Rattle.lines.specs.Fields.{write}
 use Rattle.lines.specs.Replies.{texts, settingText}
@@ -79,8 +81,14 @@ joined-short n (f ∷ g ∷ fs) p =
 -- one part for each channel
 channel-short : (model : Model) (n : ℕ) (text : ℕ → List ℕ) → ((k : ℕ) → length (text k) ≤ n) → length (eachChannel model text) ≤ 2 * suc n
 unfolding eachChannel
-channel-short Tpg361 n text h = omega (arith, joined-short n (text 0 ∷ []) (h 0, tt))
-channel-short Tpg362 n text h = joined-short n (text 0 ∷ text 1 ∷ []) (h 0, (h 1, tt))
+channel-short model n text h =
+    let ks : List ℕ = take (channels model) (0 ∷ 1 ∷ []) in
+    let two : length (map text ks) ≤ 2 = omega (arith, length-map ks text, length-take (channels model) (0 ∷ 1 ∷ [])) in
+    omega (arith, joined-short n (map text ks) (each-text ks), mul-le-mul-right (suc n) two)
+  where
+    each-text : (ks : List ℕ) → Each (λ f. length f ≤ n) (map text ks)
+    each-text [] = tt
+    each-text (k ∷ ks) = (h k, each-text ks)
 
 -- the cells of a setting
 texts-short : (ks : List Kind) (cs : List Threshold) → Each (λ f. length f ≤ 14) (texts ks cs)
@@ -97,9 +105,9 @@ texts-few (k ∷ ks) (c ∷ cs) = omega (arith, texts-few ks cs)
 pub setting-short : (model : Model) (s : Settings) (x : Setting) → length (settingText model s x) ≤ 62
 unfolding settingText
 setting-short model s x =
-    let ks = kinds model (OfSetting x) in
+    let ks = kinds model (setting x) in
     let cs = cells model s x in
-    omega (arith, joined-short 14 (texts ks cs) (texts-short ks cs), texts-few ks cs, few model x)
+    omega (arith, joined-short 14 (texts ks cs) (texts-short ks cs), texts-few ks cs, few-kinds (settingEntry x .fields model))
 
 -- ---- the other replies
 
@@ -110,8 +118,7 @@ kind-short k =
     (each-at (λ n. leb (length n) 7 ≡ true) kindNames [] refl (every-each (λ n. leb (length n) 7) kindNames refl) k)
 
 serial-length : (model : Model) (serial : ℕ) → length (serialText model serial) ≡ 38
-serial-length Tpg361 serial = refl
-serial-length Tpg362 serial = refl
+serial-length model serial = every-model (λ m. length (serialText m serial) ≡ 38) (refl, (refl, tt)) model
 
 ended : (t : List ℕ) → length t ≤ 62 → length (t ++ crLf) ≤ 64
 ended t h = omega (arith, length-append t crLf)
@@ -131,13 +138,11 @@ module _ (s : Instrument) where
   query-short error Ayt = omega (arith, serial-length (s .model) (s .serial))
   query-short error Err = omega arith
 
-  pub reply-length : (error : Word) (m : Mnemonic) → length (replyText s error m) ≤ 64
+  pub reply-length : (error : Word) (a : Replying) → length (replyText s error a) ≤ 64
   unfolding replyText
   reply-length error (OfSetting x) = ended (settingText (s .model) (s .settings) x) (setting-short (s .model) (s .settings) x)
   reply-length error (Cf k) = ended (settingText (s .model) (s .settings) Cal) (setting-short (s .model) (s .settings) Cal)
   reply-length error (OfQuery q) = ended (queryText s error q) (query-short error q)
-  reply-length error Com = omega arith
-  reply-length error Sav = omega arith
 
   pub stream-length : length (streamText s) ≤ 64
   unfolding streamText

@@ -8,13 +8,15 @@ use Rattle.gauges.specs.Readings.{noReading}
 use Rattle.gauges.specs.Shown.{shownOf, switched}
 use Rattle.gauges.specs.declared.reading.Reading.{Reading}
 use Rattle.gauges.specs.declared.shown.Shown.{Shown}
-use Rattle.settings.specs.Models.{startsOn, follows, defaults}
-use Rattle.settings.specs.Rows.{noSwitching, firstNumber, stored}
+use Rattle.settings.specs.Models.{startsOn, follows}
+use Rattle.settings.specs.Cells.{firstNumber}
+use Rattle.settings.specs.Table.{defaults}
+use Rattle.settings.specs.Rows.{noSwitching, stored}
 use Rattle.settings.specs.declared.model.Model.{Model}
-use Rattle.settings.specs.declared.mnemonic.Setting.{Setting}
-use Rattle.settings.specs.declared.mnemonic.Setting.the-variants.{Uni, Fil, Cal, Dcd, Sp, Stored}
+use Rattle.settings.specs.declared.mnemonic.Setting.the-variants.{Uni, Cal, Sp, Stored}
+use Rattle.settings.specs.declared.mnemonic.Replying.the-variants.{OfSetting, Cf, OfQuery}
 use Rattle.settings.specs.declared.mnemonic.Mnemonic.{Mnemonic}
-use Rattle.settings.specs.declared.mnemonic.Mnemonic.the-variants.{OfSetting, Cf, OfQuery, Com, Sav}
+use Rattle.settings.specs.declared.mnemonic.Mnemonic.the-variants.{OfReplying, Com, Sav}
 use Rattle.settings.specs.declared.rows.Row.{Row}
 use Rattle.settings.specs.declared.Switching.{Switching}
 use Rattle.settings.specs.declared.Settings.{Settings}
@@ -62,26 +64,18 @@ measured s channel r = record {
 
 -- "SAV with 0 or nothing makes the saved set the defaults ..; SAV,1 makes it the present settings."
 abbrev pub savedBy : Instrument → Mnemonic → Row → Settings
-savedBy s (OfSetting x) r = s .saved
-savedBy s (Cf k) r = s .saved
-savedBy s (OfQuery q) r = s .saved
+savedBy s (OfReplying a) r = s .saved
 savedBy s Com r = s .saved
 savedBy s Sav r = cond (eqb (firstNumber r) 0) (defaults (s .model)) (s .settings)
 
--- "an accepted SPx with fields .. sets it off", and with assignment 1 "on": as the assignment starts
-abbrev pub settingSwitches : Instrument → Setting → Row → List Bool
-settingSwitches s Uni r = s .switches
-settingSwitches s Fil r = s .switches
-settingSwitches s Cal r = s .switches
-settingSwitches s Dcd r = s .switches
-settingSwitches s (Sp k) r = set (s .switches) k (startsOn (s .model) (firstNumber r))
-settingSwitches s (Stored k) r = s .switches
-
--- and no other line moves a switch
+-- "an accepted SPx with fields .. sets it off", and with assignment 1 "on": as the assignment starts; no other line moves a switch
 abbrev pub switchesBy : Instrument → Mnemonic → Row → List Bool
-switchesBy s (OfSetting x) r = settingSwitches s x r
-switchesBy s (Cf k) r = s .switches
-switchesBy s (OfQuery q) r = s .switches
+switchesBy s (OfReplying (OfSetting (Sp k))) r = set (s .switches) k (startsOn (s .model) (firstNumber r))
+switchesBy s (OfReplying (OfSetting Uni)) r = s .switches
+switchesBy s (OfReplying (OfSetting Cal)) r = s .switches
+switchesBy s (OfReplying (OfSetting (Stored k))) r = s .switches
+switchesBy s (OfReplying (Cf k)) r = s .switches
+switchesBy s (OfReplying (OfQuery q)) r = s .switches
 switchesBy s Com r = s .switches
 switchesBy s Sav r = s .switches
 
@@ -98,6 +92,6 @@ written s m r = record {
 
 -- no other line changes anything
 abbrev pub applied : Instrument → Verdict → Instrument
-applied s (Asks m) = s
+applied s (Asks a) = s
 applied s (Writes m r) = written s m r
 applied s (Refused x) = s

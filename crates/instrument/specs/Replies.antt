@@ -15,8 +15,8 @@ use Rattle.settings.specs.Models.{channels, names}
 use Rattle.settings.specs.declared.model.Model.{Model}
 use Rattle.settings.specs.declared.mnemonic.Query.{Query}
 use Rattle.settings.specs.declared.mnemonic.Query.the-variants.{Sps, Pr, Prx, Tid, Ayt, Err}
-use Rattle.settings.specs.declared.mnemonic.Mnemonic.{Mnemonic}
-use Rattle.settings.specs.declared.mnemonic.Mnemonic.the-variants.{OfSetting, Cf, OfQuery, Com, Sav}
+use Rattle.settings.specs.declared.mnemonic.Replying.{Replying}
+use Rattle.settings.specs.declared.mnemonic.Replying.the-variants.{OfSetting, Cf, OfQuery}
 use Rattle.lines.specs.Splitting.{joined}
 use Rattle.lines.specs.Words.{wordText}
 use Rattle.lines.specs.Replies.{settingText, factorsText}
@@ -61,13 +61,11 @@ queryText s error Tid = eachChannel (s .model) (kindAt (s .readings))
 queryText s error Ayt = serialText (s .model) (s .serial)
 queryText s error Err = wordText error
 
--- the reply of each mnemonic, "then CR LF"; COM and SAV have none
-unfoldable pub replyText : Instrument → Word → Mnemonic → List ℕ
+-- the reply of each mnemonic that has one, "then CR LF"
+unfoldable pub replyText : Instrument → Word → Replying → List ℕ
 replyText s error (OfSetting x) = settingText (s .model) (s .settings) x ++ crLf
 replyText s error (Cf k) = factorsText (s .model) (s .settings) ++ crLf
 replyText s error (OfQuery q) = queryText s error q ++ crLf
-replyText s error Com = []
-replyText s error Sav = []
 
 -- a line of the stream, "then CR LF"
 unfoldable pub streamText : Instrument → List ℕ

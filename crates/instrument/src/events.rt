@@ -9,6 +9,7 @@ use lines::verdict::Verdict;
 use settings::Settings;
 use settings::Switching;
 use settings::mnemonic::Mnemonic;
+use settings::mnemonic::Replying;
 use settings::mnemonic::Setting;
 use settings::model::Model;
 use settings::rows::Row;
@@ -103,9 +104,7 @@ impl Instrument {
         let a = r.first;
         let mut saved = self.saved;
         match m {
-            Mnemonic::OfSetting(_) => {}
-            Mnemonic::Cf(_) => {}
-            Mnemonic::OfQuery(_) => {}
+            Mnemonic::OfReplying(_) => {}
             Mnemonic::Com => {}
             Mnemonic::Sav => {
                 let settings = self.settings;
@@ -126,16 +125,16 @@ impl Instrument {
         let a = r.first;
         let before = self.switches;
         match m {
-            Mnemonic::OfSetting(x) => match x {
-                Setting::Uni => before,
-                Setting::Fil => before,
-                Setting::Cal => before,
-                Setting::Dcd => before,
-                Setting::Sp(k) => switch_put(before, k, model.starts_on(a.mantissa)),
-                Setting::Stored(_) => before,
+            Mnemonic::OfReplying(b) => match b {
+                Replying::OfSetting(x) => match x {
+                    Setting::Sp(k) => switch_put(before, k, model.starts_on(a.mantissa)),
+                    Setting::Uni => before,
+                    Setting::Cal => before,
+                    Setting::Stored(_) => before,
+                },
+                Replying::Cf(_) => before,
+                Replying::OfQuery(_) => before,
             },
-            Mnemonic::Cf(_) => before,
-            Mnemonic::OfQuery(_) => before,
             Mnemonic::Com => before,
             Mnemonic::Sav => before,
         }

@@ -13,8 +13,8 @@ use lines::replies::factors_reply;
 use lines::replies::setting_reply;
 use lines::word::Word;
 use lines::word::write_word;
-use settings::mnemonic::Mnemonic;
 use settings::mnemonic::Query;
+use settings::mnemonic::Replying;
 use settings::model::Model;
 use text::append;
 use text::digits::binary;
@@ -131,18 +131,16 @@ impl Instrument {
         end_line(out, a)
     }
 
-    // The reply of a mnemonic; that of ERR is the error word handed in. COM and SAV have none.
-    pub fn reply(self, out: &mut [u8], at: usize, m: Mnemonic, error: Word) -> usize
-        ensures { λ r. ⌜ page (now (out .exit)) r ≡ puts (page (now (out .entry)) at) (replyText self error m) ⌝ }
+    // The reply of a mnemonic; that of ERR is the error word handed in.
+    pub fn reply(self, out: &mut [u8], at: usize, a: Replying, error: Word) -> usize
+        ensures { λ r. ⌜ page (now (out .exit)) r ≡ puts (page (now (out .entry)) at) (replyText self error a) ⌝ }
     {
         let model = self.model;
         let settings = self.settings;
-        match m {
-            Mnemonic::OfSetting(x) => setting_reply(out, at, model, settings, x),
-            Mnemonic::Cf(_) => factors_reply(out, at, model, settings),
-            Mnemonic::OfQuery(q) => self.query_reply(out, at, q, error),
-            Mnemonic::Com => at,
-            Mnemonic::Sav => at,
+        match a {
+            Replying::OfSetting(x) => setting_reply(out, at, model, settings, x),
+            Replying::Cf(_) => factors_reply(out, at, model, settings),
+            Replying::OfQuery(q) => self.query_reply(out, at, q, error),
         }
     }
 

@@ -16,7 +16,7 @@ use Rattle.ground.proofs.Cases.{never, below, in-range, either, neither}
 use Rattle.text.specs.Control.{isCharacter, etx, enq, lf, cr, space}
 use Rattle.settings.specs.Mnemonics.{isErr}
 use Rattle.settings.specs.declared.model.Model.{Model}
-use Rattle.settings.specs.declared.mnemonic.Mnemonic.{Mnemonic}
+use Rattle.settings.specs.declared.mnemonic.Replying.{Replying}
 use Rattle.ports.specs.Line.{blank, withLine, grown, isEmpty}
 use Rattle.ports.specs.Hearing.{kindOf, bySelection, asked, quiet, byKind, heard}
 use Rattle.ports.specs.Walk.{again, repeats, settled, isTyped, typing, typedOne, typedAll}
@@ -82,7 +82,7 @@ typed-heard model p b e = rw (other b e lf (omega arith), and-false (p .ended), 
     by false = refl
 
 -- an ENQ asked of the settled port, its reply and its port apart, is heard so, straight after a CR too
-pub enq-heard : (model : Model) (p q next : Port) (m : Mnemonic) (b : ℕ) → b ≡ enq → q ≡ settled p → Reply m (q .error) ≡ asked q .event → next ≡ asked q .port
+pub enq-heard : (model : Model) (p q next : Port) (m : Replying) (b : ℕ) → b ≡ enq → q ≡ settled p → Reply m (q .error) ≡ asked q .event → next ≡ asked q .port
     → record { port = next; event = Reply m (q .error) } ≡ heard model p b
 unfolding heard kindOf byKind
 enq-heard model p q next m b enq settles event port = rw (enq, and-false (p .ended), ← settles) (λ i. record { port = port i; event = event i })

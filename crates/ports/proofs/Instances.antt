@@ -11,10 +11,12 @@ use Rattle.ground.specs.Members.{every}
 use Rattle.ground.specs.Ranges.{inRange}
 use Rattle.ground.proofs.Cases.{cond-cases}
 use Rattle.text.specs.Control.{cr, space}
+use Rattle.settings.specs.Mnemonics.{same, isErr}
 use Rattle.settings.specs.declared.model.Model.{Model}
 use Rattle.settings.specs.declared.mnemonic.Query.the-variants.{Sps, Err}
-use Rattle.settings.specs.declared.mnemonic.Mnemonic.{Mnemonic}
-use Rattle.settings.specs.declared.mnemonic.Mnemonic.the-variants.{OfQuery, Com}
+use Rattle.settings.specs.declared.mnemonic.Replying.{Replying}
+use Rattle.settings.specs.declared.mnemonic.Replying.the-variants.{OfQuery}
+use Rattle.settings.specs.declared.mnemonic.Mnemonic.the-variants.{Com}
 use Rattle.settings.specs.declared.rows.Row.{Row}
 use Rattle.lines.specs.Judging.{judged}
 use Rattle.lines.specs.declared.verdict.Verdict.the-variants.{Writes}
@@ -50,7 +52,7 @@ unfolding heard kindOf byKind concluded
 com-unselected model p r e = rw (and-false (p .ended), e)
 
 -- an ENQ on an empty line is answered by the selection, which stays
-pub selection-answers : (p : Port) (m : Mnemonic) → isEmpty p ≡ true → p .selection ≡ Chosen m → asked p ≡ replied p m
+pub selection-answers : (p : Port) (m : Replying) → isEmpty p ≡ true → p .selection ≡ Chosen m → asked p ≡ replied p m
 unfolding asked
 selection-answers p m e s = rw (e, s)
 
@@ -61,6 +63,7 @@ word-answers p e = rw e
 
 -- nothing selected, SPS, and ERR, whose word is gone once it is sent
 pub selection-repeats : map again (Nothing ∷ Chosen (OfQuery Sps) ∷ Chosen (OfQuery Err) ∷ []) ≡ false ∷ true ∷ false ∷ []
+unfolding isErr same
 selection-repeats = refl
 
 pub bad-stays : (p : Port) (b : ℕ) → p .bad ≡ true → grown p b ≡ p

@@ -1,6 +1,6 @@
 -- No byte and no tick takes a port out of its limits; what it makes of a line, and what it answers.
 use Prim.Native.Nat.{ℕ, zero, suc, _+_, _≤_, _<_}
-use mathlib.Core.Path.{_≡_, refl, sym, ap, subst}
+use mathlib.Core.Path.{_≡_, refl, sym, ap, _∙_, subst}
 use mathlib.Core.List.{List, [], _∷_}
 use mathlib.Core.Bool.{Bool, true, false, cond, _&&_, and-eq-true-iff}
 use mathlib.Core.Logic.{_≢_}
@@ -16,18 +16,18 @@ use Rattle.ground.specs.Ranges.{inRange}
 use Rattle.ground.proofs.Members.{every-snoc}
 use Rattle.ground.proofs.Cases.{never, cond-cases, in-range}
 use Rattle.text.specs.Control.{isCharacter, etx, enq, lf, cr}
-use Rattle.numbers.specs.Numbers.{between}
-use Rattle.settings.specs.Mnemonics.{isErr, hasReply, answers}
-use Rattle.settings.specs.Kinds.{whole, kinds}
-use Rattle.settings.specs.Limits.{fits}
-use Rattle.settings.specs.Rows.{pairRow, firstNumber}
+use Rattle.settings.specs.Table.{entry, whole}
+use Rattle.settings.specs.Mnemonics.{isErr, answers}
+use Rattle.settings.specs.Limits.{sameNumber, fits}
+use Rattle.settings.specs.Cells.{pairRow, firstNumber}
 use Rattle.settings.specs.declared.model.Model.{Model}
-use Rattle.settings.specs.declared.model.Model.the-variants.{Tpg361, Tpg362}
 use Rattle.settings.specs.declared.mnemonic.Query.the-variants.{Err}
+use Rattle.settings.specs.declared.mnemonic.Replying.{Replying}
+use Rattle.settings.specs.declared.mnemonic.Replying.the-variants.{OfQuery}
 use Rattle.settings.specs.declared.mnemonic.Mnemonic.{Mnemonic}
-use Rattle.settings.specs.declared.mnemonic.Mnemonic.the-variants.{OfSetting, Cf, OfQuery, Com, Sav}
+use Rattle.settings.specs.declared.mnemonic.Mnemonic.the-variants.{OfReplying, Com, Sav}
 use Rattle.settings.specs.declared.rows.Row.{Row}
-use Rattle.settings.proofs.Answerable.{query-answers}
+use Rattle.settings.proofs.Answerable.{first-there, query-answers}
 use Rattle.settings.proofs.StoredLimits.{Fitting}
 use Rattle.settings.proofs.Places.{row-places}
 use Rattle.lines.specs.Words.{noError, gathered}
@@ -81,7 +81,7 @@ module _ (P : Heard → Type 0) (model : Model) (p : Port) (b : ℕ) (not-cr : b
       cond-cases P (p .ended && eqb b lf) (quiet (withMark p false)) (byKind model (kindOf b) (settled p) b)
       (λ e. kept (rw (and-eq-true-iff (p .ended) (eqb b lf) .0 e .1))) (λ _. inner-kind)
 
-asked-by : (P : Heard → Type 0) (p : Port) → P (worded p) → ((m : Mnemonic) → p .selection ≡ Chosen m → P (replied p m)) → P (asked p)
+asked-by : (P : Heard → Type 0) (p : Port) → P (worded p) → ((m : Replying) → p .selection ≡ Chosen m → P (replied p m)) → P (asked p)
 unfolding asked
 asked-by P p w f = cond-cases P (isEmpty p) (bySelection p (p .selection)) (worded p) (λ _. by (p .selection) refl) (λ _. w)
   where
@@ -110,9 +110,7 @@ grown-by P p b same spoils f =
 -- ---- the eighty places
 
 begun-line : (p : Port) (m : Mnemonic) (r : Row) → begun p m r .line ≡ p .line
-begun-line p (OfSetting x) r = refl
-begun-line p (Cf k) r = refl
-begun-line p (OfQuery q) r = refl
+begun-line p (OfReplying a) r = refl
 begun-line p Com r = refl
 begun-line p Sav r = refl
 
@@ -126,7 +124,7 @@ concluded-line p (Refused x) = refl
 abbrev Long : Port → Type 0
 Long p = length (p .line) ≡ 80
 
-replied-long : (p : Port) (m : Mnemonic) → Long p → Long (replied p m .port)
+replied-long : (p : Port) (m : Replying) → Long p → Long (replied p m .port)
 replied-long p m e = cond-cases Long (isErr m) (withChoice p (Chosen m) noError) p (λ _. e) (λ _. e)
 
 kind-long : (model : Model) (k : ByteKind) (p : Port) (b : ℕ) → Long p → Long (byKind model k p b .port)
@@ -235,36 +233,32 @@ mode-within p (suc (suc zero)) h = refl
 mode-within p (suc (suc (suc n))) h = absurd (omega arith)
 
 -- COM's number is a mode
-com-mode : (model : Model) (r : Row) → Fitting (kinds model Com) r → firstNumber r ≤ 2
+com-mode : (model : Model) (r : Row) → Fitting (entry Com .fields model) r → firstNumber r ≤ 2
 com-mode model r f =
-    let h : fits (whole 0 2) (r .first) ≡ true = row-places (whole 0 2 ∷ []) r (pairRow 0 0) f 0 (omega arith) in
-    in-range 0 2 (firstNumber r) (and-eq-true-iff (between (pos 0) (pos 0) (r .first .exponent)) (leb 0 (firstNumber r) && leb (firstNumber r) 2) .0 h .1) .1
+    let h : fits (whole 0 2) (r .first) ≡ true = row-places (entry Com .fields model) r (pairRow 0 0) f 0 (omega arith) in
+    in-range 0 2 (firstNumber r) (and-eq-true-iff (sameNumber (r .first .exponent) (pos 0)) (leb 0 (firstNumber r) && leb (firstNumber r) 2) .0 h .1) .1
 
-begun-parts : (model : Model) (p : Port) (m : Mnemonic) (r : Row) → Fitting (kinds model m) r → Parts model p → Parts model (begun p m r)
-begun-parts model p (OfSetting x) r f w = w
-begun-parts model p (Cf k) r f w = w
-begun-parts model p (OfQuery q) r f w = w
+begun-parts : (model : Model) (p : Port) (m : Mnemonic) (r : Row) → Fitting (entry m .fields model) r → Parts model p → Parts model (begun p m r)
+begun-parts model p (OfReplying a) r f w = w
 begun-parts model p Com r f w = with-stream w (intervalOf (firstNumber r)) 0 (mode-within p (firstNumber r) (com-mode model r f))
 begun-parts model p Sav r f w = w
 
-selected-within : (model : Model) (m : Mnemonic) → (hasReply m ≡ true → answers model m ≡ true) → selectionWithin model (selected m) ≡ true
-selected-within model (OfSetting x) h = h refl
-selected-within model (Cf k) h = h refl
-selected-within model (OfQuery q) h = h refl
-selected-within model Com h = refl
-selected-within model Sav h = refl
+written-selects : (model : Model) (line : List ℕ) (m : Mnemonic) (r : Row) → judged model line ≡ Writes m r → selectionWithin model (selected m) ≡ true
+written-selects model line (OfReplying a) r e = writes-answers model a line r e
+written-selects model line Com r e = refl
+written-selects model line Sav r e = refl
 
 concluded-parts : (model : Model) (p : Port) (line : List ℕ) (v : Verdict) → judged model line ≡ v → Parts model p → Parts model (concluded p v)
 unfolding concluded
-concluded-parts model p line (Asks m) e w = with-choice w (selected m) (p .error) (selected-within model m (λ _. asks-answers model line m e))
+concluded-parts model p line (Asks a) e w = with-choice w (Chosen a) (p .error) (asks-answers model a line e)
 concluded-parts model p line (Writes m r) e w =
     begun-parts model (withChoice p (selected m) (p .error)) m r (writes-fitting model line m r e)
-    (with-choice w (selected m) (p .error) (selected-within model m (writes-answers model line m r e)))
+    (with-choice w (selected m) (p .error) (written-selects model line m r e))
 concluded-parts model p line (Refused x) e w = with-choice w Nothing (gathered (p .error) x) refl
 
 -- ---- a byte
 
-replied-parts : (model : Model) (p : Port) (m : Mnemonic) → p .selection ≡ Chosen m → Parts model p → Parts model (replied p m .port)
+replied-parts : (model : Model) (p : Port) (m : Replying) → p .selection ≡ Chosen m → Parts model p → Parts model (replied p m .port)
 replied-parts model p m e w =
     cond-cases (Parts model) (isErr m) (withChoice p (Chosen m) noError) p
     (λ _. with-choice w (Chosen m) noError (subst (λ (s : Selection). selectionWithin model s ≡ true) e (w .selection))) (λ _. w)
@@ -318,7 +312,7 @@ cr-byte b = by (eqb b cr) (isDropped b) (eqb b etx) (eqb b enq) (isCharacter b) 
 
 -- only a CR ends a line
 module _ (Q : Event → Type 0) (model : Model) (p : Port) (b : ℕ) (silent : Q Silent) (line : b ≡ cr → Q (Line (judged model (held p))))
-    (word : Q (Reply (OfQuery Err) (p .error))) (reply : (m : Mnemonic) → p .selection ≡ Chosen m → Q (Reply m (p .error))) where
+    (word : Q (Reply (OfQuery Err) (p .error))) (reply : (m : Replying) → p .selection ≡ Chosen m → Q (Reply m (p .error))) where
   kind-event : (k : ByteKind) → kindOf b ≡ k → Q (byKind model k (stopped (withMark p false)) b .event)
   unfolding byKind
   kind-event Cr e = line (cr-byte b e)
@@ -338,19 +332,18 @@ heard-line model p b v =
     (λ e. never (cc)) (λ _ e. cc) (λ e. never (cc)) (λ m _ e. never (cc))
 
 err-answers : (model : Model) → answers model (OfQuery Err) ≡ true
-err-answers Tpg361 = sym (query-answers Tpg361 Err)
-err-answers Tpg362 = sym (query-answers Tpg362 Err)
+err-answers model = sym (query-answers model Err) ∙ first-there model
 
 -- what an ENQ is answered with, in a port within its limits, is something that the model answers
-pub reply-answers : (model : Model) (p : Port) (b : ℕ) (m : Mnemonic) (w : Word) → portWithin model p ≡ true → heard model p b .event ≡ Reply m w
+pub reply-answers : (model : Model) (p : Port) (b : ℕ) (m : Replying) (w : Word) → portWithin model p ≡ true → heard model p b .event ≡ Reply m w
     → answers model m ≡ true
 reply-answers model p b m w h =
     heard-event (λ (x : Event). x ≡ Reply m w → answers model m ≡ true) model p b
     (λ e. never (cc)) (λ _ e. never (cc)) (λ e. told (OfQuery Err) (cc) (err-answers model))
     (λ n s e. told n (cc) (subst (λ (s : Selection). selectionWithin model s ≡ true) s (parts model p h .selection)))
   where
-    told : (n : Mnemonic) → n ≡ m → answers model n ≡ true → answers model m ≡ true
-    told n e = subst (λ (n : Mnemonic). answers model n ≡ true) e
+    told : (n : Replying) → n ≡ m → answers model n ≡ true → answers model m ≡ true
+    told n e = subst (λ (n : Replying). answers model n ≡ true) e
 
 -- a refused line clears the selection and keeps the digits that had gathered
 pub refused-port : (model : Model) (p : Port) (x : Fault) → judged model (held p) ≡ Refused x

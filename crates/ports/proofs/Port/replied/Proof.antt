@@ -16,7 +16,7 @@ returns : tie.Need-returns
 returns c = rw (c .with-choice .ensures, c .before .none .ensures, ← c .before .before .before .is-err .ensures, c .before .before .if1 .taken)
 
 returns-2 : tie.Need-returns-2
-returns-2 c = search needs
+returns-2 c = rw (← c .before .is-err .ensures, c .if1 .left)
 
 pub replied-spec : {M : Type 1} → statement M
 replied-spec =

@@ -1,7 +1,10 @@
--- Each arm is one clause of `selected`.
+-- What has a reply is selected; COM and SAV are not.
 use borrow.Author.Needs.{needs}
 use Rattle.ports.proofs.hearing.selects.Statement.{statement}
 use Rattle.ports.proofs.hearing.selects.Tie as tie
+
+enum-known-m : tie.Need-enum-known-m
+enum-known-m c = search needs
 
 enum-told : tie.Need-enum-told
 enum-told c = search needs
@@ -9,41 +12,14 @@ enum-told c = search needs
 enum-told-2 : tie.Need-enum-told-2
 enum-told-2 c = search needs
 
-enum-told-3 : tie.Need-enum-told-3
-enum-told-3 c = search needs
-
-enum-told-4 : tie.Need-enum-told-4
-enum-told-4 c = search needs
-
-enum-told-5 : tie.Need-enum-told-5
-enum-told-5 c = search needs
-
 returns : tie.Need-returns
-returns c = rw (c .enum-told .given .1)
+returns c = rw (c .before .m .given .1)
 
 returns-2 : tie.Need-returns-2
-returns-2 c = rw (c .enum-told2 .given .1)
+returns-2 c = search needs
 
 returns-3 : tie.Need-returns-3
-returns-3 c = rw (c .enum-told3 .given .1)
-
-returns-4 : tie.Need-returns-4
-returns-4 c = search needs
-
-returns-5 : tie.Need-returns-5
-returns-5 c = search needs
+returns-3 c = search needs
 
 pub selects-spec : {M : Type 1} → statement M
-selects-spec =
-    tie.close
-    (tie.spec
-    enum-told
-    enum-told-2
-    enum-told-3
-    enum-told-4
-    enum-told-5
-    returns
-    returns-2
-    returns-3
-    returns-4
-    returns-5)
+selects-spec = tie.close (tie.spec enum-known-m enum-told enum-told-2 returns returns-2 returns-3)

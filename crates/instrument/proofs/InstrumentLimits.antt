@@ -1,6 +1,6 @@
 -- Every event keeps the limits of the instrument and the lengths of its arrays, and a refused line changes nothing.
 use Prim.Native.Nat.{ℕ, _+_, _≤_, _<_}
-use mathlib.Core.Path.{_≡_, refl, sym, subst}
+use mathlib.Core.Path.{_≡_, refl, sym, ap, subst}
 use mathlib.Core.List.{List, [], _∷_}
 use mathlib.Core.Bool.{Bool, Bool·beq, true, false, _&&_, and-eq-true-iff}
 use mathlib.Core.Logic.{_≢_, ⊎-elim}

@@ -1,14 +1,14 @@
 -- Every reply has at most 64 bytes, in whatever state the box is.
 use Prim.Native.Nat.{ℕ, suc, _*_, _/_, _≤_}
 use mathlib.Core.Path.{_≡_, refl}
-use mathlib.Core.List.{List, [], _∷_, _++_}
+use mathlib.Core.List.{List, [], _∷_, _++_, map}
 use mathlib.Core.Bool.{true, _&&_}
 use native.Mathlib.Omega.{arith}
-use native.Mathlib.Nat.{suc-mul}
+use native.Mathlib.Nat.{mul-le-mul-right, suc-mul}
 use borrow.Author.Tests.{leb-true}
 use lib.Dec.{leb, eqb}
 use lib.IntN.{ℤ}
-use lib.ListN.{length, length-append}
+use lib.ListN.{length, take, length-append, length-map, length-take}
 use Rattle.ground.specs.Members.{Each, every}
 use Rattle.ground.proofs.Cases.{cond-cases}
 use Rattle.ground.proofs.Members.{each-at, every-each}
@@ -82,8 +82,9 @@ joined-short n (f ∷ g ∷ fs) p =
 channel-short : (model : Model) (n : ℕ) (text : ℕ → List ℕ) → ((k : ℕ) → length (text k) ≤ n) → length (eachChannel model text) ≤ 2 * suc n
 unfolding eachChannel
 channel-short model n text h =
-    let ks : List ℕ = take (channels model) (0 ∷ 1 ∷ []) in
-    let two : length (map text ks) ≤ 2 = omega (arith, length-map ks text, length-take (channels model) (0 ∷ 1 ∷ [])) in
+    let all : List ℕ = 0 ∷ 1 ∷ [] in
+    let ks = take (channels model) all in
+    let two : length (map text ks) ≤ 2 = omega (arith, length-map ks text, length-take (channels model) all) in
     omega (arith, joined-short n (map text ks) (each-text ks), mul-le-mul-right (suc n) two)
   where
     each-text : (ks : List ℕ) → Each (λ f. length f ≤ n) (map text ks)

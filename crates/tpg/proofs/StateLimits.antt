@@ -7,7 +7,8 @@ use native.Mathlib.Omega.{arith}
 use Rattle.ground.proofs.Cases.{cond-cases, in-range}
 use Rattle.gauges.specs.Readings.{withinLimits}
 use Rattle.gauges.specs.declared.reading.Reading.{Reading}
-use Rattle.settings.specs.Models.{modelOf, channels, defaults}
+use Rattle.settings.specs.Models.{modelOf, channels}
+use Rattle.settings.specs.Table.{defaults}
 use Rattle.settings.specs.declared.model.Model.{Model}
 use Rattle.settings.specs.declared.model.Model.the-variants.{Tpg361}
 use Rattle.settings.specs.declared.model.Numbered.{Numbered}

@@ -2,7 +2,7 @@
 use Prim.Native.Nat.{ℕ}
 use mathlib.Core.Path.{_≡_}
 use mathlib.Core.Bool.{Bool, true, _&&_}
-use Rattle.settings.specs.Models.{defaults}
+use Rattle.settings.specs.Table.{defaults}
 use Rattle.settings.specs.declared.model.Model.{Model}
 use Rattle.settings.specs.declared.Settings.{Settings}
 use Rattle.ports.specs.Hearing.{freshPort}

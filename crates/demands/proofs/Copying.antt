@@ -1,12 +1,12 @@
 -- Demand 3: a sheet of settings is read from one box and sent to another of the model, over bytes. Proved over a list of settings, and so
 -- over the sheet of any model.
-use Prim.Native.Nat.{ℕ, _+_, _<_}
+use Prim.Native.Nat.{ℕ, _+_}
 use mathlib.Core.Path.{_≡_, refl, sym, ap, ap₂, subst, _∙_}
 use mathlib.Core.List.{List, [], _∷_, _++_, map, flatMap, append-assoc, append-nil}
 use mathlib.Core.Bool.{true, and-eq-true-iff}
 use mathlib.Core.Logic.{_≢_}
 use native.Mathlib.Omega.{arith}
-use borrow.Author.Tests.{lt-ltb, ne-eqb}
+use borrow.Author.Tests.{ne-eqb}
 use lib.ListN.{length, take, drop}
 use lib.Seq.{drop-append-seam, drop-drop}
 use Rattle.ground.specs.Members.{Each}
@@ -15,19 +15,19 @@ use Rattle.ground.proofs.Members.{each-map, each-both, each-take}
 use Rattle.ground.proofs.Sequences.{map-take}
 use Rattle.text.specs.Spans.{until}
 use Rattle.text.specs.Control.{crLf, lf, cr}
-use Rattle.settings.specs.Models.{channels}
-use Rattle.settings.specs.Mnemonics.{sheet, name}
+use Rattle.settings.specs.Cells.{rowOf}
+use Rattle.settings.specs.Mnemonics.{sheet, setting, name}
 use Rattle.settings.specs.Rows.{cells}
 use Rattle.settings.specs.Limits.{within}
 use Rattle.settings.specs.declared.model.Model.{Model}
-use Rattle.settings.specs.declared.model.Model.the-variants.{Tpg361, Tpg362}
 use Rattle.settings.specs.declared.mnemonic.Setting.{Setting}
 use Rattle.settings.specs.declared.mnemonic.Mnemonic.{Mnemonic}
-use Rattle.settings.specs.declared.mnemonic.Mnemonic.the-variants.{OfSetting}
+use Rattle.settings.specs.declared.mnemonic.Replying.the-variants.{OfSetting}
 use Rattle.settings.specs.declared.rows.Row.{Row}
 use Rattle.settings.specs.declared.Settings.{Settings}
 use Rattle.settings.proofs.Sheets.{sheet-each}
-use Rattle.lines.specs.Judging.{rowOf, judged, effect}
+use Rattle.settings.proofs.Answerable.{first-there}
+use Rattle.lines.specs.Judging.{judged, effect}
 use Rattle.lines.specs.Replies.{settingText}
 use Rattle.lines.specs.Sheets.{sheetLine, settingsAfter}
 use Rattle.lines.specs.declared.word.Word.{Word}
@@ -57,8 +57,8 @@ use Rattle.demands.proofs.Spelling.{Character, Typeable, typeable-inner
 
 -- its name can be typed, and asks for it
 record Asked (model : Model) (x : Setting) : Type 0 where
-  short : Short (name (OfSetting x))
-  asks : judged model (name (OfSetting x)) ≡ Asks (OfSetting x)
+  short : Short (name (setting x))
+  asks : judged model (name (setting x)) ≡ Asks (OfSetting x)
 
 -- ---- the inquiries
 
@@ -69,16 +69,16 @@ module _ (e : End) (instrument : Instrument) where
   unfolding flatMap after said replyText asOften
   inquired [] s same empty h = (refl, same)
   inquired (x ∷ xs) s {error = error} same empty h =
-      let bytes = ended e (name (OfSetting x)) ++ enquiries 1 in
+      let bytes = ended e (name (setting x)) ++ enquiries 1 in
       let rest = questions e xs in
-      let verdict : judged (s .instrument .model) (name (OfSetting x)) ≡ Asks (OfSetting x) = ap (λ (t : Instrument). judged (t .model) (name (OfSetting x))) same ∙ h .0 .asks in
-      let t = name-typeable (OfSetting x) (h .0 .short) in
-      let asks = ap (judged (s .instrument .model)) (typeable-line (name (OfSetting x)) t) ∙ verdict in
-      let inner = typeable-inner (name (OfSetting x)) t in
-      let one = line-left s empty (name (OfSetting x)) inner (Asks (OfSetting x)) asks e 1 in
+      let verdict : judged (s .instrument .model) (name (setting x)) ≡ Asks (OfSetting x) = ap (λ (t : Instrument). judged (t .model) (name (setting x))) same ∙ h .0 .asks in
+      let t = name-typeable (setting x) (h .0 .short) in
+      let asks = ap (judged (s .instrument .model)) (typeable-line (name (setting x)) t) ∙ verdict in
+      let inner = typeable-inner (name (setting x)) t in
+      let one = line-left s empty (name (setting x)) inner (Asks (OfSetting x)) asks e 1 in
       let all = inquired xs (after s bytes) (one .0 ∙ same) (one .1) (h .1) in
       let text : said s bytes ≡ ackLine ++ replyText instrument error (OfSetting x) =
-      line-enquired s empty (name (OfSetting x)) inner (Asks (OfSetting x)) asks e 1 ∙ ap (λ (t : List ℕ). ackLine ++ t) (append-nil (replyText (s .instrument) error (OfSetting x)))
+      line-enquired s empty (name (setting x)) inner (Asks (OfSetting x)) asks e 1 ∙ ap (λ (t : List ℕ). ackLine ++ t) (append-nil (replyText (s .instrument) error (OfSetting x)))
       ∙ ap (λ (t : Instrument). ackLine ++ replyText t error (OfSetting x)) same in (
         said-append bytes rest s ∙ ap₂ (λ (t u : List ℕ). t ++ u) text (all .0),
         ap (λ (t : State). t .instrument) (after-append bytes rest s) ∙ all .1,
@@ -116,7 +116,7 @@ lines-copied model a (x ∷ xs) =
 record Sent (model : Model) (a : Settings) (x : Setting) : Type 0 where
   typeable : Typeable (sheetLine model a x)
   row : Row
-  writes : judged model (sheetLine model a x) ≡ Writes (OfSetting x) row
+  writes : judged model (sheetLine model a x) ≡ Writes (setting x) row
 
 -- a line does to the settings what the lines' own law says
 heard-settings : (s : Instrument) (v : Verdict) → applied s v .settings ≡ effect (s .model) (s .settings) v
@@ -144,7 +144,7 @@ module _ (f : End) (model : Model) (a : Settings) where
       let line = sheetLine model a x in
       let bytes = ended f line in
       let rest = orders xs in
-      let v = Writes (OfSetting x) (h .0 .row) in
+      let v = Writes (setting x) (h .0 .row) in
       let verdict : judged (boxModel s) line ≡ v = ap (λ (m : Model). judged m line) same ∙ h .0 .writes in
       let t = h .0 .typeable in
       let one = line-judged s empty line (typeable-inner line t) v (ap (judged (boxModel s)) (typeable-line line t) ∙ verdict) f in
@@ -161,16 +161,12 @@ module _ (f : End) (model : Model) (a : Settings) where
 
 -- ---- the sheet of a model
 
-pub some-channel : (model : Model) → 0 < channels model
-some-channel Tpg361 = omega arith
-some-channel Tpg362 = omega arith
-
-name-asks : (model : Model) (x : Setting) → Spelt model (OfSetting x) → judged model (name (OfSetting x)) ≡ Asks (OfSetting x)
-name-asks model x sp = name-judged model (OfSetting x) sp ∙ rw (lt-ltb 0 (channels model) (some-channel model))
+name-asks : (model : Model) (x : Setting) → Spelt model (setting x) → judged model (name (setting x)) ≡ Asks (OfSetting x)
+name-asks model x sp = name-judged model (setting x) sp ∙ rw (first-there model)
 
 sheet-asked : (model : Model) → Each (Asked model) (sheet model)
 sheet-asked model =
-    each-both (λ (x : Setting). Spelt model (OfSetting x)) (λ (x : Setting). Short (name (OfSetting x))) (Asked model)
+    each-both (λ (x : Setting). Spelt model (setting x)) (λ (x : Setting). Short (name (setting x))) (Asked model)
     (λ x sp short. record { short = short; asks = name-asks model x sp }) (sheet model)
     (sheet-each (Spelt model) model (all-spelt model)) (sheet-each (λ (m : Mnemonic). Short (name m)) model (names-short model))
 
@@ -181,7 +177,7 @@ settings-within s k = instrument-parts (s .instrument) (and-eq-true-iff (instrum
 sheet-sent : (a : State) → Sound a → Each (Sent (boxModel a) (boxSettings a)) (sheet (boxModel a))
 sheet-sent a k =
     let model = boxModel a in
-    each-both (λ (x : Setting). Short (name (OfSetting x))) _ (Sent model (boxSettings a))
+    each-both (λ (x : Setting). Short (name (setting x))) _ (Sent model (boxSettings a))
     (λ x short e. record { typeable = line-typeable model (boxSettings a) x short; row = rowOf (cells model (boxSettings a) x); writes = e }) (sheet model)
     (sheet-each (λ (m : Mnemonic). Short (name m)) model (names-short model)) (sheet-accepted model (boxSettings a) (settings-within a k))
 

@@ -2,17 +2,19 @@
 use Prim.Native.Nat.{ℕ}
 use mathlib.Core.Path.{_≡_, refl, ap}
 use mathlib.Core.List.{List, []}
-use mathlib.Core.Bool.{Bool, true, false, cond, not, _&&_, _||_, and-false}
+use mathlib.Core.Bool.{Bool, true, false, cond, _&&_, and-false}
 use lib.ListN.{length, take}
 use lib.Dec.{eqb}
 use Rattle.ground.proofs.Cases.{cond-cases}
 use Rattle.text.specs.Control.{etx, enq, lf, cr}
-use Rattle.settings.specs.Mnemonics.{hasReply, isErr}
-use Rattle.settings.specs.Rows.{firstNumber}
+use Rattle.settings.specs.Cells.{firstNumber}
+use Rattle.settings.specs.Mnemonics.{same, isErr}
 use Rattle.settings.specs.declared.model.Model.{Model}
 use Rattle.settings.specs.declared.mnemonic.Query.the-variants.{Sps, Pr, Prx, Tid, Ayt, Err}
+use Rattle.settings.specs.declared.mnemonic.Replying.{Replying}
+use Rattle.settings.specs.declared.mnemonic.Replying.the-variants.{OfSetting, Cf, OfQuery}
 use Rattle.settings.specs.declared.mnemonic.Mnemonic.{Mnemonic}
-use Rattle.settings.specs.declared.mnemonic.Mnemonic.the-variants.{OfSetting, Cf, OfQuery, Com, Sav}
+use Rattle.settings.specs.declared.mnemonic.Mnemonic.the-variants.{OfReplying, Com, Sav}
 use Rattle.settings.specs.declared.rows.Row.{Row}
 use Rattle.lines.specs.Words.{noError, gathered}
 use Rattle.lines.specs.Judging.{judged}
@@ -32,7 +34,7 @@ use Rattle.instrument.specs.Replies.{replyText}
 use Rattle.instrument.specs.declared.Instrument.{Instrument}
 use Rattle.tpg.specs.Steps.{lineText, eventText, acted, next, sent}
 use Rattle.tpg.specs.declared.State.{State}
-use Rattle.demands.specs.Wire.{gathering}
+use Rattle.demands.specs.Wire.{gathering, tellsWord}
 
 -- ---- what a line is in a port
 
@@ -49,7 +51,7 @@ pub record Line (p : Port) (l : List ℕ) (selection : Selection) (error : Word)
 
 -- the selection after a line
 abbrev pub choice : Verdict → Selection
-choice (Asks m) = selected m
+choice (Asks a) = Chosen a
 choice (Writes m r) = selected m
 choice (Refused x) = Nothing
 
@@ -72,15 +74,13 @@ pub settled-line : {p : Port} {l : List ℕ} {selection : Selection} {error : Wo
 settled-line h = streamed-line (marked-line h false) 0 0
 
 line-begun : {p : Port} {l : List ℕ} {selection : Selection} {error : Word} (m : Mnemonic) (r : Row) → Line p l selection error → Line (begun p m r) l selection error
-line-begun (OfSetting x) r h = h
-line-begun (Cf k) r h = h
-line-begun (OfQuery q) r h = h
+line-begun (OfReplying a) r h = h
 line-begun Com r h = streamed-line h (intervalOf (firstNumber r)) 0
 line-begun Sav r h = h
 
 line-concluded : {p : Port} {selection : Selection} {error : Word} → Line p [] selection error → (v : Verdict) → Line (concluded p v) [] (choice v) (gathering error v)
 unfolding concluded
-line-concluded {p} {selection} {error} h (Asks m) = line-chosen h (selected m) (p .error) error (h .word)
+line-concluded {p} {selection} {error} h (Asks a) = line-chosen h (Chosen a) (p .error) error (h .word)
 line-concluded {p} {selection} {error} h (Writes m r) = line-begun m r (line-chosen h (selected m) (p .error) error (h .word))
 line-concluded {p} {selection} {error} h (Refused x) =
     line-chosen h Nothing (gathered (p .error) x) (gathered error x) (ap (λ (w : Word). gathered w x) (h .word))
@@ -118,7 +118,7 @@ wordLeft error (Chosen m) = cond (isErr m) noError error
 
 -- a reply tells the error word only where it is ERR's or stands for none, and then the word is gone
 pub reply-without-word : (s : Instrument) (error : Word) (selection : Selection) → enqText s (wordLeft error selection) selection ≡ enqText s noError selection
-unfolding replyText
+unfolding replyText isErr same
 reply-without-word s error Nothing = refl
 reply-without-word s error (Chosen (OfSetting x)) = refl
 reply-without-word s error (Chosen (Cf k)) = refl
@@ -128,14 +128,10 @@ reply-without-word s error (Chosen (OfQuery Prx)) = refl
 reply-without-word s error (Chosen (OfQuery Tid)) = refl
 reply-without-word s error (Chosen (OfQuery Ayt)) = refl
 reply-without-word s error (Chosen (OfQuery Err)) = refl
-reply-without-word s error (Chosen Com) = refl
-reply-without-word s error (Chosen Sav) = refl
 
 -- an ENQ sends it where no mnemonic is selected, or ERR is
-pub told-word : (error : Word) (m : Mnemonic) → wordLeft error (selected m) ≡ cond (not (hasReply m) || isErr m) noError error
-told-word error (OfSetting x) = refl
-told-word error (Cf k) = refl
-told-word error (OfQuery q) = refl
+pub told-word : (error : Word) (m : Mnemonic) → wordLeft error (selected m) ≡ cond (tellsWord m) noError error
+told-word error (OfReplying a) = refl
 told-word error Com = refl
 told-word error Sav = refl
 
@@ -153,7 +149,7 @@ pub record Replied (s : Instrument) (error : Word) (selection : Selection) (byte
   pub instrument : next .instrument ≡ s
   pub line : Line (next .port) [] selection (wordLeft error selection)
 
-replied-line : {p : Port} {m : Mnemonic} {error : Word} → Line p [] (Chosen m) error → Line (replied p m .port) [] (Chosen m) (cond (isErr m) noError error)
+replied-line : {p : Port} {m : Replying} {error : Word} → Line p [] (Chosen m) error → Line (replied p m .port) [] (Chosen m) (cond (isErr m) noError error)
 replied-line {p} {m} {error} h = by (isErr m)
   where
     by : (t : Bool) → Line (cond t (withChoice p (Chosen m) noError) p) [] (Chosen m) (cond t noError error)

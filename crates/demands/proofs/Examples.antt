@@ -18,9 +18,9 @@ use Rattle.numerals.specs.Exponential.{afterPlus, afterSign, powerOf, composed,
 use Rattle.numerals.specs.Writing.{scientific}
 use Rattle.gauges.specs.Readings.{withinLimits, noReading}
 use Rattle.gauges.specs.Shown.{switched}
-use Rattle.settings.specs.Mnemonics.{known, same, found, recognised, answers}
-use Rattle.settings.specs.Kinds.{storedKinds}
-use Rattle.settings.specs.Limits.{within}
+use Rattle.settings.specs.Mnemonics.{sheet, known, same, found, recognised, answers, isErr}
+use Rattle.settings.specs.Table.{switchingEntry, storedEntry}
+use Rattle.settings.specs.Limits.{cellsFit, within}
 use Rattle.settings.specs.declared.model.Model.the-variants.{Tpg361, Tpg362}
 use Rattle.lines.specs.Splitting.{fields}
 use Rattle.lines.specs.Fields.{limited}
@@ -145,7 +145,7 @@ starred =
     ∷ []
 
 pub starred-hold : Hold starred
-unfolding bare climbWithin digits power rounded fittedTo scaledBy lead rest headIs value numberOf behindPoint factorOf afterPlus afterSign powerOf composed fraction afterFraction thresholdOf scientific withinLimits every known same found recognised answers storedKinds within fields limited fieldsRead formed valued withFields judged settingText grown kindOf concluded asked byKind heard lineWithin portWithin measured written instrumentWithin replyText stateWithin eventText next sent after said taken admits roomed roomedBytes hosted readingCall
+unfolding bare climbWithin digits power rounded fittedTo scaledBy lead rest headIs value numberOf behindPoint factorOf afterPlus afterSign powerOf composed fraction afterFraction thresholdOf scientific withinLimits every known same found sheet recognised answers switchingEntry storedEntry cellsFit within fields limited fieldsRead formed valued withFields judged settingText grown kindOf concluded isErr asked byKind heard lineWithin portWithin measured written instrumentWithin replyText stateWithin eventText next sent after said taken admits roomed roomedBytes hosted readingCall
 starred-hold = refl
 
 -- ---- 01's example, its other examples and its wrong readings
@@ -194,5 +194,5 @@ examples =
     ∷ []
 
 pub examples-hold : Hold examples
-unfolding bare less isBelow isAbove climbWithin digits power rounded fittedTo scaledBy lead rest headIs value numberOf behindPoint factorOf afterPlus afterSign powerOf composed fraction afterFraction thresholdOf scientific withinLimits switched every known same found recognised answers storedKinds within fields limited fieldsRead formed valued withFields judged settingText grown ticked kindOf concluded asked byKind heard lineWithin portWithin measured written instrumentWithin eachChannel replyText streamText stateWithin eventText next sent after said taken admits roomed roomedBytes hosted tickText counted afterTicks ticksText readingCall cycleCall
+unfolding bare less isBelow isAbove climbWithin digits power rounded fittedTo scaledBy lead rest headIs value numberOf behindPoint factorOf afterPlus afterSign powerOf composed fraction afterFraction thresholdOf scientific withinLimits switched every known same found sheet recognised answers switchingEntry storedEntry cellsFit within fields limited fieldsRead formed valued withFields judged settingText grown ticked kindOf concluded isErr asked byKind heard lineWithin portWithin measured written instrumentWithin eachChannel replyText streamText stateWithin eventText next sent after said taken admits roomed roomedBytes hosted tickText counted afterTicks ticksText readingCall cycleCall
 examples-hold = refl

@@ -6,7 +6,7 @@ use mathlib.Core.List.{List, [], _∷_, _++_, map, flatMap, append-nil}
 use mathlib.Core.Bool.{Bool, true, false, not}
 use mathlib.Core.Logic.{_≢_}
 use native.Mathlib.Omega.{arith}
-use borrow.Author.Tests.{not-true, eq-eqb, lt-ltb}
+use borrow.Author.Tests.{not-true, eq-eqb}
 use lib.ListN.{getD, take, drop}
 use Rattle.ground.specs.Members.{every, Each}
 use Rattle.ground.proofs.Cases.{never}
@@ -19,21 +19,22 @@ use Rattle.numerals.specs.Runs.{lead, rest, headIs, value}
 use Rattle.numerals.specs.Whole.{numberOf, behindPoint, factorOf}
 use Rattle.numerals.specs.Exponential.{afterPlus, afterSign, powerOf, composed, fraction, afterFraction, thresholdOf}
 use Rattle.numerals.specs.Writing.{scientific}
-use Rattle.settings.specs.Models.{channels, defaults}
-use Rattle.settings.specs.Mnemonics.{sheet, known, name, same, found, recognised}
-use Rattle.settings.specs.Kinds.{storedKinds, kinds}
-use Rattle.settings.specs.Rows.{row, listed, fieldCount}
+use Rattle.settings.specs.Mnemonics.{sheet, setting, known, name, same, found, recognised}
+use Rattle.settings.specs.Cells.{listed}
+use Rattle.settings.specs.Table.{switchingEntry, storedEntry, kinds, defaults}
+use Rattle.settings.specs.Rows.{row, fieldCount}
 use Rattle.settings.specs.declared.model.Model.{Model}
-use Rattle.settings.specs.declared.model.Model.the-variants.{Tpg361, Tpg362}
+use Rattle.settings.specs.declared.model.Model.the-variants.{Tpg362}
 use Rattle.settings.specs.declared.mnemonic.Setting.{Setting}
-use Rattle.settings.specs.declared.mnemonic.Setting.the-variants.{Uni, Fil, Cal, Dcd, Sp, Stored}
+use Rattle.settings.specs.declared.mnemonic.Setting.the-variants.{Uni, Cal, Sp, Stored}
 use Rattle.settings.specs.declared.mnemonic.Mnemonic.{Mnemonic}
-use Rattle.settings.specs.declared.mnemonic.Mnemonic.the-variants.{OfSetting}
+use Rattle.settings.specs.declared.mnemonic.Replying.the-variants.{OfSetting}
 use Rattle.settings.specs.declared.rows.Row.{Row}
 use Rattle.settings.specs.declared.Settings.{Settings}
-use Rattle.settings.proofs.Storing.{Holding}
-use Rattle.settings.proofs.Storing.Holding.{uni, fil}
-use Rattle.settings.proofs.Sheets.{sheet-holding, on-sheet, sheet-each}
+use Rattle.settings.proofs.Every.{tested}
+use Rattle.settings.proofs.Storing.Holding.{uni, kept}
+use Rattle.settings.proofs.Sheets.{OnSheet, sheet-holds, on-sheet, sheet-each}
+use Rattle.settings.proofs.Answerable.{first-there}
 use Rattle.lines.specs.Splitting.{fields, joined}
 use Rattle.lines.specs.Fields.{limited}
 use Rattle.lines.specs.Judging.{fieldsRead, formed, valued, withFields, judged}
@@ -55,7 +56,7 @@ use Rattle.demands.specs.Replies.{Says, Becomes, Reads, Replies}
 use Rattle.demands.specs.Sheets.{boxModel, boxSettings, Boxes, firstLine, copyOf, linesSent}
 use Rattle.demands.specs.Demands.{Meets, NaksAll, once, told, BlindToLines, BlindToStates, Forgets, SilentBut}
 use Rattle.demands.proofs.Spelling.{setting-characters}
-use Rattle.demands.proofs.Copying.{first-line, no-cr, some-channel}
+use Rattle.demands.proofs.Copying.{first-line, no-cr}
 
 abbrev fresh : Model → State
 fresh model = freshBox model 0
@@ -67,7 +68,7 @@ same-box model = let k = fresh-sound model 0 refl in record { first = k; second 
 
 -- demand 3, "All are accepted": already the first line of a fresh 362's own sheet
 pub naks-all : (says : Says) (becomes : Becomes) → Meets says becomes → NaksAll says → ⊥
-unfolding flatMap
+unfolding flatMap sheet switchingEntry storedEntry
 naks-all says becomes meets naks =
     let a = fresh Tpg362 in
     subst (Each (λ (b : ℕ). b ≢ ack)) (meets .copied a a (same-box Tpg362) byCr byCr .0) (naks a (linesSent byCr (copyOf says byCr a))) .0 refl
@@ -77,24 +78,21 @@ naks-all says becomes meets naks =
 -- for each setting fields that are not its default
 others : Setting → List String
 others Uni = "0" ∷ []
-others Fil = "0" ∷ "0" ∷ []
 others Cal = "2" ∷ "2" ∷ []
-others Dcd = "1" ∷ "1" ∷ []
 others (Sp k) = "1" ∷ "1" ∷ "1" ∷ []
-others (Stored k) = getD ("1" ∷ "1" ∷ "1" ∷ "1" ∷ "2" ∷ "1" ∷ "1" ∷ "1" ∷ "1" ∷ []) k "" ∷ []
+others (Stored k) = let n : String = getD ("0" ∷ "1" ∷ "1" ∷ "1" ∷ "1" ∷ "1" ∷ "2" ∷ "1" ∷ "1" ∷ "1" ∷ "1" ∷ []) k "" in n ∷ n ∷ []
 
 -- a box that was sent them
 changed : Model → Setting → State
-changed model x = after (fresh model) (ended byCr (joined (name (OfSetting x) ∷ take (fieldCount model x) (map ascii (others x)))))
+changed model x = after (fresh model) (ended byCr (joined (name (setting x) ∷ take (fieldCount model x) (map ascii (others x)))))
 
 -- is not what it was
 moved : Model → Setting → Bool
 moved model x = not (same (settingText model (boxSettings (changed model x)) x) (settingText model (defaults model) x))
 
 all-moved : (model : Model) → every (moved model) (sheet model) ≡ true
-unfolding moved changed others bare climbWithin digits power rounded fittedTo lead rest headIs value numberOf behindPoint factorOf afterPlus afterSign powerOf composed fraction afterFraction thresholdOf scientific every known same found recognised storedKinds fields limited fieldsRead formed valued withFields judged settingText grown kindOf concluded asked byKind heard written eventText next sent after
-all-moved Tpg361 = refl
-all-moved Tpg362 = refl
+unfolding moved changed others bare climbWithin digits power rounded fittedTo lead rest headIs value numberOf behindPoint factorOf afterPlus afterSign powerOf composed fraction afterFraction thresholdOf scientific every known sheet same found recognised switchingEntry storedEntry fields limited fieldsRead formed valued withFields judged settingText grown kindOf concluded asked byKind heard written eventText next sent after
+all-moved = tested (λ model. every (moved model) (sheet model)) refl
 
 -- equal bytes are found the same
 same-self : (t : List ℕ) → same t t ≡ true
@@ -111,8 +109,8 @@ unfolding changed
 changed-model model x = after-model _ (fresh model)
 
 -- what holds of each setting that was changed holds of the sheet
-each-moved : (P : Setting → Type 0) (model : Model) → ((x : Setting) → Holding x → moved model x ≡ true → P x) → Each P (sheet model)
-each-moved P model f = each-both Holding (λ (x : Setting). moved model x ≡ true) P f (sheet model) (sheet-holding model) (every-each (moved model) (sheet model) (all-moved model))
+each-moved : (P : Setting → Type 0) (model : Model) → ((x : Setting) → OnSheet model x → moved model x ≡ true → P x) → Each P (sheet model)
+each-moved P model f = each-both (OnSheet model) (λ (x : Setting). moved model x ≡ true) P f (sheet model) (sheet-holds model) (every-each (moved model) (sheet model) (all-moved model))
 
 -- texts that differ are not equal
 apart : (t u : List ℕ) → not (same t u) ≡ true → t ≢ u
@@ -121,34 +119,35 @@ apart t u differs e = let d : same t u ≡ false = not-true (same t u) differs i
 -- ---- one that always sends the same reply
 
 -- what is told of a setting is its text
-told-text : (says : Says) → Replies says → (s : State) → Sound s → (x : Setting) → Holding x → told says s (OfSetting x) ≡ settingText (boxModel s) (boxSettings s) x ++ crLf
+told-text : (says : Says) → Replies says → (s : State) → Sound s → (x : Setting) → OnSheet (boxModel s) x → told says s (OfSetting x) ≡ settingText (boxModel s) (boxSettings s) x ++ crLf
 unfolding asOften replyText
 told-text says replies s k x h =
     let reads = each-map _ (λ (m : Mnemonic). Reads says s m) (λ m both. both .0) (known (boxModel s)) (replies s k) in
     let text = settingText (boxModel s) (boxSettings s) x in
-    ap (drop 3) (on-sheet (λ (x : Setting). Reads says s (OfSetting x)) (boxModel s) (sheet-each (λ (m : Mnemonic). Reads says s m) (boxModel s) reads) x h refl once tt)
-    ∙ rw (lt-ltb 0 (channels (boxModel s)) (some-channel (boxModel s))) (append-nil (text ++ crLf))
+    ap (drop 3) (on-sheet (λ (x : Setting). Reads says s (setting x)) (boxModel s) (sheet-each (λ (m : Mnemonic). Reads says s m) (boxModel s) reads) h once tt)
+    ∙ rw (first-there (boxModel s)) (append-nil (text ++ crLf))
 
 -- a fresh 362 answers 4 for its unit and 2,2 for its filters
 pub blind-to-lines : (says : Says) (becomes : Becomes) → Meets says becomes → BlindToLines says → ⊥
-unfolding settingText bare
+unfolding settingText bare storedEntry
 blind-to-lines says becomes meets blind =
     let s = fresh Tpg362 in
     let k = fresh-sound Tpg362 0 refl in
     let e : _≡_ {A = ℕ} 52 50 =
-    ap (λ (t : List ℕ). getD t 0 0) (sym (told-text says (meets .replies) s k Uni uni) ∙ blind s (OfSetting Uni) (OfSetting Fil) ∙ told-text says (meets .replies) s k Fil fil) in
+    ap (λ (t : List ℕ). getD t 0 0) (sym (told-text says (meets .replies) s k Uni (record { holding = uni; taken = refl })) ∙ blind s (OfSetting Uni) (OfSetting (Stored 0))
+    ∙ told-text says (meets .replies) s k (Stored 0) (record { holding = kept 0 (omega arith); taken = refl })) in
     omega (arith, e)
 
 -- a program that answers as 01 says tells a setting that was changed from one that was not
 abbrev Tells : Setting → Type 0
 Tells x = (says : Says) (becomes : Becomes) → Meets says becomes → BlindToStates says x → ⊥
 
-tells : (model : Model) (x : Setting) → Holding x → moved model x ≡ true → Tells x
+tells : (model : Model) (x : Setting) → OnSheet model x → moved model x ≡ true → Tells x
 unfolding moved
 tells model x h differs says becomes meets blind =
     let a = changed model x in
     let b = fresh model in
-    let one = told-text says (meets .replies) a (changed-sound model x) x h in
+    let one = told-text says (meets .replies) a (changed-sound model x) x (subst (λ (m : Model). OnSheet m x) (sym (changed-model model x)) h) in
     let other = told-text says (meets .replies) b (fresh-sound model 0 refl) x h in
     let line = settingText model (boxSettings a) x in
     let own = settingText model (defaults model) x in
@@ -167,7 +166,7 @@ blind-to-states model = each-moved Tells model (tells model)
 abbrev Stores : Setting → Type 0
 Stores x = (says : Says) (becomes : Becomes) → Meets says becomes → Forgets says becomes x → ⊥
 
-stores : (model : Model) (x : Setting) → Holding x → moved model x ≡ true → Stores x
+stores : (model : Model) (x : Setting) → OnSheet model x → moved model x ≡ true → Stores x
 unfolding moved settingText
 stores model x h differs says becomes meets forgets =
     let a = changed model x in
@@ -175,7 +174,7 @@ stores model x h differs says becomes meets forgets =
     let both : Boxes a b = record { first = changed-sound model x; second = fresh-sound model 0 refl; model = changed-model model x } in
     let equal : row (boxSettings a) x ≡ row (defaults model) x = ap (λ (s : Settings). row s x) (sym (meets .copied a b both byCr byCr .1)) ∙ forgets a b both byCr byCr in
     apart (settingText model (boxSettings a) x) (settingText model (defaults model) x) differs
-    (ap (λ (r : Row). joined (texts (kinds model (OfSetting x)) (take (fieldCount model x) (listed r)))) equal)
+    (ap (λ (r : Row). joined (texts (kinds model (setting x)) (take (fieldCount model x) (listed r)))) equal)
 
 -- demand 3, "the settings are equal": whichever setting of the sheet it is that a program never stores
 pub forgets : (model : Model) → Each Stores (sheet model)
@@ -185,7 +184,7 @@ forgets model = each-moved Stores model (stores model)
 
 -- for a line something is sent, ACK or NAK
 some-answer : (n : ℕ) (s : Instrument) (error : Word) (v : Verdict) (front rest : List ℕ) → front ++ (answered n s error v ++ rest) ≢ []
-some-answer n s error (Asks m) [] rest e = never (cc)
+some-answer n s error (Asks a) [] rest e = never (cc)
 some-answer n s error (Writes m r) [] rest e = never (cc)
 some-answer n s error (Refused x) [] rest e = never (cc)
 some-answer n s error v (b ∷ front) rest e = never (cc)

@@ -7,6 +7,7 @@ use lib.ListN.{length, take}
 use Rattle.ground.proofs.Members.{each-map}
 use Rattle.settings.specs.Mnemonics.{sheet, known}
 use Rattle.settings.specs.declared.mnemonic.Mnemonic.{Mnemonic}
+use Rattle.settings.specs.declared.mnemonic.Mnemonic.the-variants.{OfReplying, Com, Sav}
 use Rattle.tpg.specs.Answers.{leastOutput}
 use Rattle.tpg.specs.States.{Sound}
 use Rattle.tpg.specs.Steps.{after, said}
@@ -26,12 +27,17 @@ use Rattle.demands.proofs.Copying.{sheet-read, sheet-copied, sheet-cut,
 abbrev Agrees : Says → Becomes → Type 0
 Agrees says becomes = (s : State) → Sound s → (bytes : List ℕ) → (says s bytes ≡ said s bytes) × (becomes s bytes ≡ after s bytes)
 
+read-agreed : (says : Says) (becomes : Becomes) → Agrees says becomes → (s : State) → Sound s → (m : Mnemonic) → Reads said s m → Reads says s m
+read-agreed says becomes g s k (OfReplying a) read = λ w ready. g s k _ .0 ∙ read w ready
+read-agreed says becomes g s k Com read = tt
+read-agreed says becomes g s k Sav read = tt
+
 agreed : (says : Says) (becomes : Becomes) → Agrees says becomes → Meets says becomes
 agreed says becomes g = record {
   answers = (λ s k w ready bytes inner. g s k _ .0 ∙ line-answered s k w ready bytes inner);
   leaves = (λ s k w ready bytes inner. rw (g s k (sending w bytes) .1) (line-leaves s k w ready bytes inner));
   replies = (λ s k. each-map (λ (m : Mnemonic). Reads said s m × WritesBack said s m) (λ (m : Mnemonic). Reads says s m × WritesBack says s m)
-      (λ m both. ((λ has w ready. g s k _ .0 ∙ both .0 has w ready), (λ w ready l r t e. g s k _ .0 ∙ both .1 w ready l r t e))) (known (boxModel s)) (mnemonics-answered s k));
+      (λ m both. (read-agreed says becomes g s k m (both .0), (λ w ready l r t e. g s k _ .0 ∙ both .1 w ready l r t e))) (known (boxModel s)) (mnemonics-answered s k));
   splits = (λ s k xs ys.
       let first = g s k xs in
       let others = g (after s xs) (after-sound xs s k) ys in

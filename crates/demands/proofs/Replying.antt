@@ -6,27 +6,29 @@ use mathlib.Core.Bool.{Bool, true, false, cond}
 use native.Mathlib.Omega.{arith}
 use lib.Dec.{ltb}
 use Rattle.ground.specs.Members.{Each}
-use Rattle.ground.proofs.Cases.{never}
 use Rattle.ground.proofs.Members.{each-map, each-both}
 use Rattle.ground.proofs.Sequences.{take-set}
 use Rattle.text.specs.Control.{etx}
-use Rattle.settings.specs.Models.{channels}
-use Rattle.settings.specs.Mnemonics.{sheet, known, name, channelOf, hasReply}
-use Rattle.settings.specs.Kinds.{factor, kinds}
-use Rattle.settings.specs.Rows.{plain, pairRow, row, listed, firstNumber, fieldCount}
+use Rattle.settings.specs.Cells.{plain, pairRow, firstNumber, listed}
+use Rattle.settings.specs.Table.{factor, settingEntry, entry}
+use Rattle.settings.specs.Mnemonics.{sheet, setting, known, name, isThere}
+use Rattle.settings.specs.Rows.{row, fieldCount}
 use Rattle.settings.specs.declared.mnemonic.Setting.{Setting}
 use Rattle.settings.specs.declared.mnemonic.Setting.the-variants.{Cal}
 use Rattle.settings.specs.declared.mnemonic.Query.{Query}
 use Rattle.settings.specs.declared.mnemonic.Query.the-variants.{Sps, Pr, Prx, Tid, Ayt, Err}
+use Rattle.settings.specs.declared.mnemonic.Replying.{Replying}
+use Rattle.settings.specs.declared.mnemonic.Replying.the-variants.{Cf, OfQuery}
 use Rattle.settings.specs.declared.mnemonic.Mnemonic.{Mnemonic}
-use Rattle.settings.specs.declared.mnemonic.Mnemonic.the-variants.{OfSetting, Cf, OfQuery, Com, Sav}
+use Rattle.settings.specs.declared.mnemonic.Mnemonic.the-variants.{OfReplying, Com, Sav}
 use Rattle.settings.specs.declared.rows.Row.{Row}
-use Rattle.settings.proofs.Places.{fits-plain, row-places}
+use Rattle.settings.proofs.Tabled.{few-kinds}
+use Rattle.settings.proofs.Places.{number-plain, row-places}
 use Rattle.settings.proofs.Storing.{Holding, mixed-front, stored-row, factor-row}
-use Rattle.settings.proofs.Sheets.{sheet-holding, few, known-each}
+use Rattle.settings.proofs.Sheets.{OnSheet, sheet-holds, known-each}
 use Rattle.settings.proofs.StoredLimits.{Fitting, fitting-canon}
 use Rattle.lines.specs.Words.{noError, gathered}
-use Rattle.lines.specs.Judging.{alone, judged}
+use Rattle.lines.specs.Judging.{judged}
 use Rattle.lines.specs.Replies.{settingText}
 use Rattle.lines.specs.declared.word.Word.{Word}
 use Rattle.lines.specs.declared.verdict.Fault.the-variants.{Hardware}
@@ -34,6 +36,7 @@ use Rattle.lines.specs.declared.verdict.Verdict.{Verdict}
 use Rattle.lines.specs.declared.verdict.Verdict.the-variants.{Asks, Writes, Refused}
 use Rattle.lines.proofs.Accepted.{Spelt, all-spelt}
 use Rattle.lines.proofs.WrittenLimits.{writes-fitting}
+use Rattle.ports.specs.Hearing.{selected}
 use Rattle.ports.specs.declared.Selection.{Selection}
 use Rattle.instrument.specs.Events.{written, applied}
 use Rattle.instrument.specs.Replies.{replyText}
@@ -55,16 +58,14 @@ unfolding asOften
 often-same zero f g same error = refl
 often-same (suc n) f g same error = ap₂ (λ (t u : List ℕ). t ++ u) (same error) (often-same n f g same noError)
 
-selected-text : (s : Instrument) (m : Mnemonic) (error : Word) → enqText s error (choice (Asks m)) ≡ selectedText s m error
-selected-text s (OfSetting x) error = refl
-selected-text s (Cf k) error = refl
-selected-text s (OfQuery q) error = refl
+selected-text : (s : Instrument) (m : Mnemonic) (error : Word) → enqText s error (selected m) ≡ selectedText s m error
+selected-text s (OfReplying a) error = refl
 selected-text s Com error = refl
 selected-text s Sav error = refl
 
 answered-text : (n : ℕ) (s : Instrument) (error : Word) (v : Verdict)
     → lineText v ++ asOften n (λ (w : Word). enqText (applied s v) w (choice v)) (gathering error v) ≡ answered n s error v
-answered-text n s error (Asks m) = ap (λ (t : List ℕ). ackLine ++ t) (often-same n _ _ (selected-text s m) error)
+answered-text n s error (Asks a) = refl
 answered-text n s error (Writes m r) = ap (λ (t : List ℕ). ackLine ++ t) (often-same n _ _ (selected-text (written s m r) m) error)
 answered-text n s error (Refused x) = refl
 
@@ -104,54 +105,49 @@ line-leaves s k w = by (w .start)
 
 -- ---- a mnemonic that is read
 
-alone-asks : (m : Mnemonic) → hasReply m ≡ true → alone m ≡ Asks m
-alone-asks (OfSetting x) h = refl
-alone-asks (Cf k) h = refl
-alone-asks (OfQuery q) h = refl
-alone-asks Com h = never (cc)
-alone-asks Sav h = never (cc)
-
 -- told where the model has its channel, refused where it has not
-read-text : (n : ℕ) (s : Instrument) (error : Word) (m : Mnemonic) → hasReply m ≡ true → (there : Bool)
-    → answered n s error (cond there (alone m) (Refused Hardware)) ≡ cond there (ackLine ++ asOften n (λ (w : Word). replyText s w m) error) (nakLine ++ asOften n (errorText s) (gathered error Hardware))
-read-text n s error m has true =
-    rw (alone-asks m has) (ap (λ (t : List ℕ). ackLine ++ t) (often-same n (selectedText s m) (λ (w : Word). replyText s w m) (λ w. rw has) error))
-read-text n s error m has false = refl
+read-text : (n : ℕ) (s : Instrument) (error : Word) (a : Replying) (there : Bool)
+    → answered n s error (cond there (Asks a) (Refused Hardware)) ≡ cond there (ackLine ++ asOften n (λ (w : Word). replyText s w a) error) (nakLine ++ asOften n (errorText s) (gathered error Hardware))
+read-text n s error a true = refl
+read-text n s error a false = refl
 
 reads : (s : State) → Sound s → (m : Mnemonic) → Spelt (s .instrument .model) m → Short (name m) → Reads said s m
-reads s k m sp short has w ready =
+reads s k (OfReplying a) sp short = λ w ready.
     let model = s .instrument .model in
+    let m = OfReplying a in
     let t = name-typeable m short in
     line-answered s k w ready (name m) (typeable-inner (name m) t)
     ∙ ap (answered (w .enqs) (s .instrument) (s .port .error)) (ap (judged model) (typeable-line (name m) t) ∙ name-judged model m sp)
-    ∙ read-text (w .enqs) (s .instrument) (s .port .error) m has (ltb (channelOf m) (channels model))
+    ∙ read-text (w .enqs) (s .instrument) (s .port .error) a (isThere model m)
+reads s k Com sp short = tt
+reads s k Sav sp short = tt
 
 -- ---- a line that writes it
 
 module _ (s : State) (k : Sound s) where
   -- what the ENQ tells of a line that wrote is what it wrote
   Back : Mnemonic → Type 0
-  Back m = (r : Row) → Fitting (kinds (s .instrument .model) m) r → (error : Word) → selectedText (written (s .instrument) m r) m error ≡ writtenText (s .instrument) m r error
+  Back m = (r : Row) → Fitting (entry m .fields (s .instrument .model)) r → (error : Word) → selectedText (written (s .instrument) m r) m error ≡ writtenText (s .instrument) m r error
 
   -- the cells of a setting are the line's
-  setting-back : (x : Setting) → Holding x → Back (OfSetting x)
+  setting-back : (x : Setting) → Holding x → Back (setting x)
   unfolding Back replyText written settingText
   setting-back x h r f error =
       let m = s .instrument .model in
       let b = s .instrument .settings in
-      rw (stored-row m b r (k .shaped .instrument .settings) h (fitting-canon m r h f), mixed-front (fieldCount m x) r (row b x) (few m x))
+      rw (stored-row m b r (k .shaped .instrument .settings) h (fitting-canon m r h f), mixed-front (fieldCount m x) r (row b x) (few-kinds (settingEntry x .fields m)))
 
   -- of CAL's cells only the channel's own is
-  factor-back : (c : ℕ) → c < 2 → Back (Cf c)
+  factor-back : (c : ℕ) → c < 2 → Back (OfReplying (Cf c))
   unfolding Back replyText written settingText
   factor-back c h r f error =
       let m = s .instrument .model in
       let b = s .instrument .settings in
-      let fits = row-places (factor ∷ []) r (pairRow 0 0) f 0 (omega arith) in
-      let own : plain (firstNumber r) ≡ r .first = sym (fits-plain (record { least = 100; most = 10000; reach = 10000 }) (r .first) fits) in
+      let fits = row-places (entry (OfReplying (Cf c)) .fields m) r (pairRow 0 0) f 0 (omega arith) in
+      let own : plain (firstNumber r) ≡ r .first = sym (number-plain (factor m) (r .first) refl fits) in
       rw (factor-row m b r (k .shaped .instrument .settings) c h, own, take-set (fieldCount m Cal) c (r .first) (listed (row b Cal)))
 
-  query-back : (q : Query) → Back (OfQuery q)
+  query-back : (q : Query) → Back (OfReplying (OfQuery q))
   unfolding Back replyText written
   query-back q r f error = refl
 
@@ -166,7 +162,7 @@ module _ (s : State) (k : Sound s) where
   -- those of the sheet, and the others
   all-back : Each Back (known (s .instrument .model))
   all-back =
-      known-each Back (s .instrument .model) (each-map Holding (λ (x : Setting). Back (OfSetting x)) setting-back (sheet (s .instrument .model)) (sheet-holding (s .instrument .model))) (
+      known-each Back (s .instrument .model) (each-map (OnSheet (s .instrument .model)) (λ (x : Setting). Back (setting x)) (λ x o. setting-back x (o .holding)) (sheet (s .instrument .model)) (sheet-holds (s .instrument .model))) (
         factor-back 0 (omega arith),
         (
           factor-back 1 (omega arith),

@@ -13,16 +13,15 @@ use Rattle.ground.proofs.Cases.{in-range}
 use Rattle.ground.proofs.Members.{each-map, each-append, every-each}
 use Rattle.text.specs.Control.{isCharacter, lf, space}
 use Rattle.numbers.specs.declared.threshold.Threshold.{Threshold}
-use Rattle.settings.specs.Models.{channels}
-use Rattle.settings.specs.Mnemonics.{known, name, channelOf}
-use Rattle.settings.specs.Kinds.{kinds}
+use Rattle.settings.specs.Table.{switchingEntry, storedEntry, kinds}
+use Rattle.settings.specs.Mnemonics.{sheet, setting, known, name, isThere}
 use Rattle.settings.specs.Rows.{cells}
 use Rattle.settings.specs.declared.model.Model.{Model}
 use Rattle.settings.specs.declared.mnemonic.Setting.{Setting}
 use Rattle.settings.specs.declared.mnemonic.Mnemonic.{Mnemonic}
-use Rattle.settings.specs.declared.mnemonic.Mnemonic.the-variants.{OfSetting}
-use Rattle.settings.specs.declared.kinds.Kind.{Kind}
+use Rattle.settings.specs.declared.table.Kind.{Kind}
 use Rattle.settings.specs.declared.Settings.{Settings}
+use Rattle.settings.proofs.Every.{tested}
 use Rattle.lines.specs.Splitting.{joined}
 use Rattle.lines.specs.Judging.{alone, withFields, parted, judged}
 use Rattle.lines.specs.Replies.{texts, settingText}
@@ -75,8 +74,8 @@ pub record Short (n : List ℕ) : Type 0 where
   pub few : length n ≤ 3
 
 short-names : (model : Model) → every (λ (m : Mnemonic). short (name m)) (known model) ≡ true
-unfolding known every short
-short-names model = refl
+unfolding known sheet every short switchingEntry storedEntry
+short-names = tested (λ model. every (λ (m : Mnemonic). short (name m)) (known model)) refl
 
 pub names-short : (model : Model) → Each (λ (m : Mnemonic). Short (name m)) (known model)
 unfolding short
@@ -116,21 +115,21 @@ texts-characters (k ∷ ks) (c ∷ cs) = (each-written written-characters k c, t
 pub setting-characters : (model : Model) (s : Settings) (x : Setting) → Each Character (settingText model s x)
 unfolding settingText
 setting-characters model s x =
-    let ks = kinds model (OfSetting x) in
+    let ks = kinds model (setting x) in
     let cs = cells model s x in
     each-joined Character refl (texts ks cs) (texts-characters ks cs)
 
 -- a mnemonic, a comma and its reply
-pub line-typeable : (model : Model) (s : Settings) (x : Setting) → Short (name (OfSetting x)) → Typeable (sheetLine model s x)
+pub line-typeable : (model : Model) (s : Settings) (x : Setting) → Short (name (setting x)) → Typeable (sheetLine model s x)
 line-typeable model s x h =
     record {
-      characters = each-append Character (name (OfSetting x)) (44 ∷ settingText model s x) (h .characters) (refl, setting-characters model s x);
-      few = omega (arith, length-append (name (OfSetting x)) (44 ∷ settingText model s x), h .few, setting-short model s x);
+      characters = each-append Character (name (setting x)) (44 ∷ settingText model s x) (h .characters) (refl, setting-characters model s x);
+      few = omega (arith, length-append (name (setting x)) (44 ∷ settingText model s x), h .few, setting-short model s x);
     }
 
 -- ---- a name alone
 
 -- "With no comma the line asks for the setting"; "PR2 or CF2 on a 361, 0100"
-pub name-judged : (model : Model) (m : Mnemonic) → Spelt model m → judged model (name m) ≡ cond (ltb (channelOf m) (channels model)) (alone m) (Refused Hardware)
+pub name-judged : (model : Model) (m : Mnemonic) → Spelt model m → judged model (name m) ≡ cond (isThere model m) (alone model m) (Refused Hardware)
 unfolding withFields
 name-judged model m sp = judged-parts model (name m) ∙ ap (parted model) (fields-one (name m) (sp .plain)) ∙ rw (sp .back)

@@ -201,7 +201,7 @@ enqs-replied (suc n) s {x} {error} h =
 word-left : (n : ℕ) (error : Word) (v : Verdict) → wordAfter n (gathering error v) (choice v) ≡ errorLeft n error v
 word-left zero error v = refl
 word-left (suc n) error (Refused x) = refl
-word-left (suc n) error (Asks m) = told-word error m
+word-left (suc n) error (Asks a) = refl
 word-left (suc n) error (Writes m r) = told-word error m
 
 -- ---- a line and its end

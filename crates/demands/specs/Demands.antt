@@ -8,8 +8,9 @@ use Rattle.ground.specs.Members.{Each}
 use Rattle.text.specs.Control.{ack}
 use Rattle.settings.specs.Mnemonics.{name}
 use Rattle.settings.specs.declared.mnemonic.Setting.{Setting}
-use Rattle.settings.specs.declared.mnemonic.Mnemonic.{Mnemonic}
-use Rattle.settings.specs.declared.mnemonic.Mnemonic.the-variants.{OfSetting}
+use Rattle.settings.specs.declared.mnemonic.Replying.{Replying}
+use Rattle.settings.specs.declared.mnemonic.Replying.the-variants.{OfSetting}
+use Rattle.settings.specs.declared.mnemonic.Mnemonic.the-variants.{OfReplying}
 use Rattle.tpg.specs.Answers.{leastOutput}
 use Rattle.tpg.specs.Steps.{said}
 use Rattle.tpg.specs.declared.State.{State}
@@ -59,12 +60,12 @@ NaksAll says = (s : State) (bytes : List ℕ) → Each (λ (b : ℕ). b ≢ ack)
 abbrev pub once : Way
 once = record { start = afterEtx; end = byCr; enqs = 1 }
 
-abbrev pub told : Says → State → Mnemonic → List ℕ
-told says s m = drop (length ackLine) (says s (sending once (name m)))
+abbrev pub told : Says → State → Replying → List ℕ
+told says s a = drop (length ackLine) (says s (sending once (name (OfReplying a))))
 
 -- "one that always sends the same reply": whatever it is asked, or, to some setting, in whatever state
 abbrev pub BlindToLines : Says → Type 0
-BlindToLines says = (s : State) (m k : Mnemonic) → told says s m ≡ told says s k
+BlindToLines says = (s : State) (a b : Replying) → told says s a ≡ told says s b
 
 abbrev pub BlindToStates : Says → Setting → Type 0
 BlindToStates says x = (s t : State) → told says s (OfSetting x) ≡ told says t (OfSetting x)

@@ -4,8 +4,9 @@ use mathlib.Core.Path.{_≡_}
 use mathlib.Core.List.{List, _++_}
 use mathlib.Core.Bool.{true}
 use Rattle.ground.specs.Members.{Each}
-use Rattle.settings.specs.Mnemonics.{known, name, hasReply}
+use Rattle.settings.specs.Mnemonics.{known, name}
 use Rattle.settings.specs.declared.mnemonic.Mnemonic.{Mnemonic}
+use Rattle.settings.specs.declared.mnemonic.Mnemonic.the-variants.{OfReplying, Com, Sav}
 use Rattle.settings.specs.declared.rows.Row.{Row}
 use Rattle.lines.specs.Judging.{judged}
 use Rattle.lines.specs.declared.verdict.Verdict.{Verdict}
@@ -43,8 +44,10 @@ Leaves becomes =
 
 -- "for reading a setting": of all mnemonics but COM and SAV, which have no reply; alone on a line they write their default
 abbrev pub Reads : Says → State → Mnemonic → Type 0
-Reads says s m =
-    hasReply m ≡ true → (w : Way) → Ready (w .start) s → says s (sending w (name m)) ≡ readText (w .enqs) (s .instrument) (s .port .error) m
+Reads says s (OfReplying a) =
+    (w : Way) → Ready (w .start) s → says s (sending w (name (OfReplying a))) ≡ readText (w .enqs) (s .instrument) (s .port .error) a
+Reads says s Com = Unit {0}
+Reads says s Sav = Unit {0}
 
 -- "and for writing one": a line that writes it is answered with what it wrote
 abbrev pub WritesBack : Says → State → Mnemonic → Type 0

@@ -8,10 +8,9 @@ use lib.ListN.{length, take, drop}
 use Rattle.ground.specs.Members.{Each}
 use Rattle.text.specs.Spans.{until}
 use Rattle.text.specs.Control.{cr, crLf}
-use Rattle.settings.specs.Mnemonics.{sheet, name}
+use Rattle.settings.specs.Mnemonics.{sheet, setting, name}
 use Rattle.settings.specs.Rows.{row}
 use Rattle.settings.specs.declared.mnemonic.Setting.{Setting}
-use Rattle.settings.specs.declared.mnemonic.Mnemonic.the-variants.{OfSetting}
 use Rattle.settings.specs.declared.Settings.{Settings}
 use Rattle.settings.specs.declared.model.Model.{Model}
 use Rattle.lines.specs.Replies.{settingText}
@@ -36,7 +35,7 @@ pub record Boxes (a b : State) : Type 0 where
 
 -- each mnemonic and an ENQ
 abbrev pub questions : End → List Setting → List ℕ
-questions e = flatMap (λ (x : Setting). ended e (name (OfSetting x)) ++ enquiries 1)
+questions e = flatMap (λ (x : Setting). ended e (name (setting x)) ++ enquiries 1)
 
 -- "Send the first an ETX and read the seventeen sheet mnemonics."
 abbrev pub sheetAsked : End → State → List ℕ
@@ -58,7 +57,7 @@ unfoldable pub copyLines : List Setting → List ℕ → List (List ℕ)
 copyLines [] received = []
 copyLines (x ∷ xs) received =
     let reply = behindLine received in
-    (name (OfSetting x) ++ (code "," ∷ firstLine reply)) ∷ copyLines xs (behindLine reply)
+    (name (setting x) ++ (code "," ∷ firstLine reply)) ∷ copyLines xs (behindLine reply)
 
 -- the lines that a host makes of what the first box sent it
 abbrev pub copyOf : Says → End → State → List (List ℕ)

@@ -2,26 +2,27 @@
 use Prim.Native.Nat.{ℕ, zero, suc}
 use mathlib.Core.Path.{_≡_}
 use mathlib.Core.List.{List, [], _∷_, _++_}
-use mathlib.Core.Bool.{Bool, true, cond, not, _&&_, _||_}
+use mathlib.Core.Bool.{Bool, true, cond, _&&_}
 use mathlib.Core.Logic.{_≢_}
-use lib.Dec.{ltb, leb}
+use lib.Dec.{leb}
 use lib.ListN.{length, set, take, replicate}
 use Rattle.ground.specs.Members.{every}
 use Rattle.text.specs.Control.{etx, enq, ack, cr, nak, crLf, isCharacter}
-use Rattle.settings.specs.Models.{channels}
-use Rattle.settings.specs.Mnemonics.{hasReply, isErr, channelOf}
-use Rattle.settings.specs.Kinds.{kinds}
-use Rattle.settings.specs.Rows.{listed, fieldCount, cells}
+use Rattle.settings.specs.Cells.{listed}
+use Rattle.settings.specs.Table.{kinds}
+use Rattle.settings.specs.Mnemonics.{setting, isThere, isErr}
+use Rattle.settings.specs.Rows.{fieldCount, cells}
 use Rattle.settings.specs.declared.mnemonic.Setting.the-variants.{Cal}
+use Rattle.settings.specs.declared.mnemonic.Replying.{Replying}
+use Rattle.settings.specs.declared.mnemonic.Replying.the-variants.{OfSetting, Cf, OfQuery}
 use Rattle.settings.specs.declared.mnemonic.Mnemonic.{Mnemonic}
-use Rattle.settings.specs.declared.mnemonic.Mnemonic.the-variants.{OfSetting, Cf, OfQuery, Com, Sav}
+use Rattle.settings.specs.declared.mnemonic.Mnemonic.the-variants.{OfReplying, Com, Sav}
 use Rattle.settings.specs.declared.mnemonic.Query.the-variants.{Err}
 use Rattle.settings.specs.declared.rows.Row.{Row}
 use Rattle.lines.specs.Splitting.{joined}
-use Rattle.lines.specs.Words.{noError, gathered}
+use Rattle.lines.specs.Words.{fault, noError, gathered}
 use Rattle.lines.specs.Replies.{texts}
 use Rattle.lines.specs.declared.word.Word.{Word}
-use Rattle.lines.specs.declared.verdict.Fault.the-variants.{Hardware}
 use Rattle.lines.specs.declared.verdict.Verdict.{Verdict}
 use Rattle.lines.specs.declared.verdict.Verdict.the-variants.{Asks, Writes, Refused}
 use Rattle.ports.specs.Line.{isEmpty}
@@ -115,11 +116,13 @@ errorText s error = replyText s error (OfQuery Err)
 
 -- after an accepted one: "the selected mnemonic's reply"; "after COM and SAV the selection is none"
 abbrev pub selectedText : Instrument → Mnemonic → Word → List ℕ
-selectedText s m error = cond (hasReply m) (replyText s error m) (errorText s error)
+selectedText s (OfReplying a) error = replyText s error a
+selectedText s Com error = errorText s error
+selectedText s Sav error = errorText s error
 
 -- what comes back for a line and so many ENQs behind it
 abbrev pub answered : ℕ → Instrument → Word → Verdict → List ℕ
-answered n s error (Asks m) = ackLine ++ asOften n (selectedText s m) error
+answered n s error (Asks a) = ackLine ++ asOften n (selectedText s (OfReplying a)) error
 answered n s error (Writes m r) = ackLine ++ asOften n (selectedText (written s m r) m) error
 answered n s error (Refused x) = nakLine ++ asOften n (errorText s) (gathered error x)
 
@@ -127,14 +130,19 @@ answered n s error (Refused x) = nakLine ++ asOften n (errorText s) (gathered er
 
 -- "Digits gather until the word is sent"
 abbrev pub gathering : Word → Verdict → Word
-gathering error (Asks m) = error
+gathering error (Asks a) = error
 gathering error (Writes m r) = error
 gathering error (Refused x) = gathered error x
 
 -- "in either way of an ENQ or through ERR": whether an ENQ behind the line sends the word
+abbrev pub tellsWord : Mnemonic → Bool
+tellsWord (OfReplying a) = isErr a
+tellsWord Com = true
+tellsWord Sav = true
+
 abbrev pub tellsError : Verdict → Bool
-tellsError (Asks m) = not (hasReply m) || isErr m
-tellsError (Writes m r) = not (hasReply m) || isErr m
+tellsError (Asks a) = isErr a
+tellsError (Writes m r) = tellsWord m
 tellsError (Refused x) = true
 
 -- "then it is 0000"
@@ -145,15 +153,15 @@ errorLeft (suc n) error v = cond (tellsError v) noError (gathering error v)
 -- ---- reading and writing a setting
 
 -- for a mnemonic alone that has a reply: "PR2 or CF2 on a 361, 0100", and any other is told
-abbrev pub readText : ℕ → Instrument → Word → Mnemonic → List ℕ
-readText n s error m =
-    cond (ltb (channelOf m) (channels (s .model))) (ackLine ++ asOften n (λ (w : Word). replyText s w m) error) (nakLine ++ asOften n (errorText s) (gathered error Hardware))
+abbrev pub readText : ℕ → Instrument → Word → Replying → List ℕ
+readText n s error a =
+    cond (isThere (s .model) (OfReplying a)) (ackLine ++ asOften n (λ (w : Word). replyText s w a) error) (nakLine ++ asOften n (errorText s) (gathered error (fault 100)))
 
 -- what the ENQ tells after a line that wrote: the line's own values; "CFx takes one factor and answers one per channel"; a mnemonic without
 -- fields has nothing to write
 abbrev pub writtenText : Instrument → Mnemonic → Row → Word → List ℕ
-writtenText s (OfSetting x) r error = joined (texts (kinds (s .model) (OfSetting x)) (take (fieldCount (s .model) x) (listed r))) ++ crLf
-writtenText s (Cf k) r error = joined (texts (kinds (s .model) (OfSetting Cal)) (set (cells (s .model) (s .settings) Cal) k (r .first))) ++ crLf
-writtenText s (OfQuery q) r error = replyText s error (OfQuery q)
+writtenText s (OfReplying (OfSetting x)) r error = joined (texts (kinds (s .model) (setting x)) (take (fieldCount (s .model) x) (listed r))) ++ crLf
+writtenText s (OfReplying (Cf k)) r error = joined (texts (kinds (s .model) (setting Cal)) (set (cells (s .model) (s .settings) Cal) k (r .first))) ++ crLf
+writtenText s (OfReplying (OfQuery q)) r error = replyText s error (OfQuery q)
 writtenText s Com r error = errorText s error
 writtenText s Sav r error = errorText s error

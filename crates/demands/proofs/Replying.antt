@@ -1,10 +1,9 @@
 -- Demand 2: each reply is what 01 gives, for every line and the ENQ behind it, and for every mnemonic read and written.
 use Prim.Native.Nat.{ℕ, zero, suc, _<_}
 use mathlib.Core.Path.{_≡_, refl, sym, ap, ap₂, subst, _∙_}
-use mathlib.Core.List.{List, [], _∷_, _++_}
+use mathlib.Core.List.{List, [], _++_}
 use mathlib.Core.Bool.{Bool, true, false, cond}
 use native.Mathlib.Omega.{arith}
-use lib.Dec.{ltb}
 use Rattle.ground.specs.Members.{Each}
 use Rattle.ground.proofs.Members.{each-map, each-both}
 use Rattle.ground.proofs.Sequences.{take-set}

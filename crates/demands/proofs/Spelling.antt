@@ -7,7 +7,7 @@ use mathlib.Core.Bool.{Bool, true, cond, _&&_, and-eq-true-iff}
 use native.Mathlib.Omega.{arith}
 use borrow.Author.Tests.{leb-true, le-leb, ne-eqb}
 use lib.ListN.{length, length-append}
-use lib.Dec.{leb, ltb}
+use lib.Dec.{leb}
 use Rattle.ground.specs.Members.{every, Each}
 use Rattle.ground.proofs.Cases.{in-range}
 use Rattle.ground.proofs.Members.{each-map, each-append, every-each}

@@ -2,7 +2,7 @@
 use Prim.Native.Nat.{ℕ, zero, suc}
 use mathlib.Core.Path.{_≡_, refl, sym, ap, _∙_}
 use mathlib.Core.List.{List, [], _∷_, _++_, map}
-use mathlib.Core.Bool.{Bool, true, false, cond, _&&_, and-true, and-assoc, and-eq-true-iff}
+use mathlib.Core.Bool.{Bool, true, false, cond, _&&_, and-assoc, and-eq-true-iff}
 use lib.ListN.{getD, take, drop}
 use Rattle.ground.specs.Members.{Each, every, those}
 use Rattle.ground.proofs.Cases.{cond-cases, never}
@@ -73,11 +73,6 @@ module _ {A : Type 0} where
 pub map-each : {A B : Type 0} (f g : A → B) (xs : List A) → map f xs ≡ map g xs → Each (λ x. f x ≡ g x) xs
 map-each f g [] e = tt
 map-each f g (x ∷ xs) e = (cc, map-each f g xs (cc))
-
--- the test over four at once
-pub every-four : {A : Type 0} (p : A → Bool) (a b c d : A) → p a && (p b && (p c && p d)) ≡ every p (a ∷ b ∷ c ∷ d ∷ [])
-unfolding every
-every-four p a b c d = ap (λ (t : Bool). p a && (p b && (p c && t))) (sym (and-true (p d)))
 
 -- over two lists joined
 pub every-append : {A : Type 0} (p : A → Bool) (xs ys : List A) → every p xs && every p ys ≡ every p (xs ++ ys)

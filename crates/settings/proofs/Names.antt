@@ -9,7 +9,7 @@ use lib.ListN.{length, getD, drop, drop-of-length-le, List·getD-append, List·g
 use lib.Seq.{drop-cons, getD-append-add}
 use lib.Dec.{eqb}
 use borrow.Author.Tests.{eqb-true}
-use Rattle.ground.specs.Members.{every, those}
+use Rattle.ground.specs.Members.{every}
 use Rattle.settings.specs.Table.{switchingEntry, storedEntry}
 use Rattle.settings.specs.Mnemonics.{held, sheet, sheetAt, others, setting, known, knownAt, name, same, found, recognised}
 use Rattle.settings.specs.declared.model.Model.{Model}

@@ -1,7 +1,7 @@
 -- What an accepted line stores keeps the limits.
 use Prim.Native.Nat.{ℕ, zero, suc, _≤_, _<_}
 use mathlib.Core.Path.{_≡_, refl, sym, ap, _∙_, subst}
-use mathlib.Core.List.{List, []}
+use mathlib.Core.List.{List}
 use mathlib.Core.Bool.{Bool, true, false, cond}
 use mathlib.Core.Logic.{_≢_, ⊎-elim}
 use mathlib.Mathlib.Data.Bool.Basic.{dichotomy}
@@ -11,7 +11,6 @@ use lib.ListN.{getD, set}
 use lib.Seq.{getD-set-same, getD-set-other}
 use lib.Dec.{ltb, eqb}
 use Rattle.ground.specs.Members.{every}
-use Rattle.ground.proofs.Cases.{below}
 use Rattle.numbers.specs.declared.threshold.Threshold.{Threshold}
 use Rattle.settings.specs.Models.{channels}
 use Rattle.settings.specs.Cells.{plain, pairRow, firstNumber, secondNumber, listed, mixed}
@@ -25,13 +24,12 @@ use Rattle.settings.specs.declared.mnemonic.Setting.the-variants.{Uni, C
 use Rattle.settings.specs.declared.mnemonic.Replying.the-variants.{Cf}
 use Rattle.settings.specs.declared.mnemonic.Mnemonic.the-variants.{OfReplying}
 use Rattle.settings.specs.declared.table.Kind.{Kind}
-use Rattle.settings.specs.declared.table.Kind.the-variants.{OfThreshold}
 use Rattle.settings.specs.declared.table.Fields.{Fields}
 use Rattle.settings.specs.declared.rows.Row.{Row}
 use Rattle.settings.specs.declared.Settings.{Settings}
 use Rattle.settings.proofs.Every.{tested, channels-few}
 use Rattle.settings.proofs.Tabled.{switching-there, numeric, Numbers, uni-numbers, cal-numbers, stored-numbers, few, count-kinds}
-use Rattle.settings.proofs.Places.{same-cell, number-plain, cell, rows-same, kindAt, placed, row-places, places-row}
+use Rattle.settings.proofs.Places.{same-cell, number-plain, cell, kindAt, placed, row-places, places-row}
 use Rattle.settings.proofs.Storing.{Holding, canon, mixed-is, stored-row, stored-others, factor-row, factor-others}
 use Rattle.settings.proofs.Storing.Holding.{uni, cal, sp, kept}
 use Rattle.settings.proofs.Sheets.{same-or-apart, within-rows, rows-within}

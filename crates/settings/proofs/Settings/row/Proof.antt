@@ -1,65 +1,47 @@
+-- The setting tells the case, and its row is made of its numbers or of its switching function.
 use borrow.Author.Needs.{needs}
 use Rattle.settings.proofs.Settings.row.Statement.{statement}
 use Rattle.settings.proofs.Settings.row.Tie as tie
-use Rattle.settings.proofs.Settings.row.Reads as reads
-use Rattle.settings.proofs.Settings.row.Lts as lts
-use Rattle.settings.proofs.rows.pair_row.Reads as pair-row-reads
-use Rattle.settings.proofs.rows.stored_row.Reads as stored-row-reads
-use Rattle.settings.proofs.rows.switch_row.Reads as switch-row-reads
 
--- src/rows.rt:95:38
 enum-told : tie.Need-enum-told
 enum-told c = search needs
 
--- src/rows.rt:95:29
 pair-row-requires : tie.Need-pair-row-requires
 pair-row-requires c κs = search needs
 
--- src/rows.rt:96:38
 enum-told-2 : tie.Need-enum-told-2
 enum-told-2 c = search needs
 
--- src/rows.rt:96:38
 element-copy-out-pair-row : tie.Need-element-copy-out-pair-row
 element-copy-out-pair-row c = search needs
 
--- src/rows.rt:96:55
 element-copy-out-pair-row-2 : tie.Need-element-copy-out-pair-row-2
 element-copy-out-pair-row-2 c = search needs
 
--- src/rows.rt:96:29
 pair-row-requires-2 : tie.Need-pair-row-requires-2
 pair-row-requires-2 c κs = search needs
 
--- src/rows.rt:97:25
 enum-known-x : tie.Need-enum-known-x
 enum-known-x c = search needs
 
--- src/rows.rt:99:17
 switch-row-requires : tie.Need-switch-row-requires
 switch-row-requires c κs = search needs
 
--- src/rows.rt:101:29
 enum-known-x-2 : tie.Need-enum-known-x-2
 enum-known-x-2 c = search needs
 
--- src/rows.rt:103:17
 stored-row-requires : tie.Need-stored-row-requires
 stored-row-requires c κs = search needs
 
--- src/rows.rt:91:5
 returns : tie.Need-returns
 returns c = rw (c .pair-row .ensures, c .before .enum-told .given .1)
 
--- src/rows.rt:91:5
 returns-2 : tie.Need-returns-2
 returns-2 c = rw (c .pair-row2 .ensures, c .before .before .before .enum-told2 .given .1)
 
--- src/rows.rt:91:5
 returns-3 : tie.Need-returns-3
 returns-3 c = rw (c .switch-row .ensures, c .before .before .before .x .given .1)
 
--- src/rows.rt:91:5
 returns-4 : tie.Need-returns-4
 returns-4 c = rw (c .stored-row .ensures, c .before .before .before .x2 .given .1)
 

@@ -1,5 +1,4 @@
 -- A signed local is its number again (`toZ-ofZ`), and no more and no less than 0 is 0 (`same-order`).
-use mathlib.Core.Path.{sym}
 use lib.IntN.{pos}
 use mir.Syntax.{w32}
 use mir.Val.{SFits}

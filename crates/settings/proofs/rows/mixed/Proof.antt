@@ -1,5 +1,4 @@
 -- Each cell is that of a where its place is below n, and that of b elsewhere (`mixed-is`).
-use mathlib.Core.Path.{_∙_}
 use borrow.Author.Needs.{needs}
 use Rattle.settings.proofs.Storing.{mixed-is}
 use Rattle.settings.proofs.rows.mixed.Statement.{statement}

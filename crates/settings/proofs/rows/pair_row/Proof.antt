@@ -1,23 +1,17 @@
+-- Both numbers and a 0, each as a plain cell.
 use borrow.Author.Needs.{needs}
 use Rattle.settings.proofs.rows.pair_row.Statement.{statement}
 use Rattle.settings.proofs.rows.pair_row.Tie as tie
-use Rattle.settings.proofs.rows.pair_row.Reads as reads
-use Rattle.settings.proofs.rows.pair_row.Lts as lts
-use Rattle.settings.proofs.rows.plain.Reads as plain-reads
 
--- src/rows.rt:38:16
 plain-requires : tie.Need-plain-requires
 plain-requires c κs = search needs
 
--- src/rows.rt:39:17
 plain-requires-2 : tie.Need-plain-requires-2
 plain-requires-2 c κs = search needs
 
--- src/rows.rt:40:16
 plain-requires-3 : tie.Need-plain-requires-3
 plain-requires-3 c κs = search needs
 
--- src/rows.rt:34:1
 returns : tie.Need-returns
 returns c = rw (c .plain3 .ensures, c .before .plain2 .ensures, c .before .before .plain .ensures)
 

@@ -2,7 +2,6 @@
 use mathlib.Core.Path.{_≡_, sym, ap, _∙_}
 use lib.ListN.{length, List·getD-eq-default}
 use native.Mathlib.Omega.{arith}
-use borrow.Author.Tests.{le-ltb}
 use borrow.Author.Needs.{needs}
 use Rattle.settings.specs.Rows.{noPair, rowOfPair}
 use Rattle.settings.proofs.rows.stored_row.Statement.{statement}

@@ -1,8 +1,8 @@
 -- The number counts from 1, and past the last there is no letter (`List·getD-eq-default`).
 use Prim.Native.Nat.{ℕ, _+_}
 use mathlib.Core.Path.{sym, refl, ap}
-use mathlib.Core.List.{List, [], _∷_}
-use lib.ListN.{getD, List·getD-eq-default}
+use mathlib.Core.List.{[], _∷_}
+use lib.ListN.{List·getD-eq-default}
 use borrow.Author.Needs.{needs}
 use Rattle.ground.proofs.Tables.{tabled}
 use Rattle.text.specs.Text.{ascii}

@@ -1,6 +1,5 @@
 -- No model has more than two channels (`channels-few`), so the sum fits.
 use Prim.Native.Nat.{_≤_}
-use native.Mathlib.Omega.{arith}
 use borrow.Author.Needs.{needs}
 use Rattle.settings.proofs.Every.{channels-few}
 use Rattle.settings.proofs.model.Model.choice.Statement.{statement}

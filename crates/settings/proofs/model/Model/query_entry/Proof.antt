@@ -1,84 +1,62 @@
+-- Each query has a row without fields.
 use borrow.Author.Needs.{needs}
 use Rattle.settings.proofs.model.Model.query_entry.Statement.{statement}
 use Rattle.settings.proofs.model.Model.query_entry.Tie as tie
-use Rattle.settings.proofs.model.Model.query_entry.Reads as reads
-use Rattle.settings.proofs.model.Model.query_entry.Lts as lts
-use Rattle.settings.proofs.model.Model.bare.Reads as bare-reads
-use Rattle.settings.proofs.table.numbered.Reads as numbered-reads
 
--- src/table.rt:203:38
 enum-told : tie.Need-enum-told
 enum-told c = search needs
 
--- src/table.rt:203:27
 bare-requires : tie.Need-bare-requires
 bare-requires c κs = search needs
 
--- src/table.rt:204:23
 enum-known-q : tie.Need-enum-known-q
 enum-known-q c = search needs
 
--- src/table.rt:204:39
 numbered-requires : tie.Need-numbered-requires
 numbered-requires c κs = search needs
 
--- src/table.rt:204:29
 bare-requires-2 : tie.Need-bare-requires-2
 bare-requires-2 c κs = search needs
 
--- src/table.rt:205:38
 enum-told-2 : tie.Need-enum-told-2
 enum-told-2 c = search needs
 
--- src/table.rt:205:27
 bare-requires-3 : tie.Need-bare-requires-3
 bare-requires-3 c κs = search needs
 
--- src/table.rt:206:38
 enum-told-3 : tie.Need-enum-told-3
 enum-told-3 c = search needs
 
--- src/table.rt:206:27
 bare-requires-4 : tie.Need-bare-requires-4
 bare-requires-4 c κs = search needs
 
--- src/table.rt:207:38
 enum-told-4 : tie.Need-enum-told-4
 enum-told-4 c = search needs
 
--- src/table.rt:207:27
 bare-requires-5 : tie.Need-bare-requires-5
 bare-requires-5 c κs = search needs
 
--- src/table.rt:208:38
 enum-told-5 : tie.Need-enum-told-5
 enum-told-5 c = search needs
 
--- src/table.rt:208:27
 bare-requires-6 : tie.Need-bare-requires-6
 bare-requires-6 c κs = search needs
 
--- src/table.rt:199:5
 returns : tie.Need-returns
 returns c = rw (c .bare .ensures, c .before .before .before .enum-told .given .1)
 
--- src/table.rt:199:5
 returns-2 : tie.Need-returns-2
 returns-2 c = rw (c .bare2 .ensures, c .before .numbered .ensures, c .before .before .before .q .given .1)
 
--- src/table.rt:199:5
 returns-3 : tie.Need-returns-3
 returns-3 c = rw (c .bare3 .ensures, c .before .before .before .enum-told2 .given .1)
 
--- src/table.rt:199:5
 returns-4 : tie.Need-returns-4
 returns-4 c = rw (c .bare4 .ensures, c .before .before .before .enum-told3 .given .1)
 
--- src/table.rt:199:5
 returns-5 : tie.Need-returns-5
 returns-5 c = rw (c .bare5 .ensures, c .before .before .before .enum-told4 .given .1)
 
--- src/table.rt:199:5
 returns-6 : tie.Need-returns-6
 returns-6 c = rw (c .bare6 .ensures, c .before .before .before .enum-told5 .given .1)
 

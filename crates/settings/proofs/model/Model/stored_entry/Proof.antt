@@ -1,6 +1,5 @@
 -- Each arm is a row of the table, and past the last there is none (`others-past`, `stored-past`).
 use mathlib.Core.Path.{_∙_, sym, ap}
-use native.Mathlib.Omega.{arith}
 use borrow.Author.Needs.{needs}
 use Rattle.ground.proofs.Ranges.{others-past}
 use Rattle.settings.proofs.Tabled.{stored-past}

@@ -1,5 +1,4 @@
 -- The row of the switching function, or none (`switching-there`, `switching-past`).
-use mathlib.Core.Path.{_∙_}
 use borrow.Author.Needs.{needs}
 use Rattle.settings.proofs.Tabled.{switching-there, switching-past}
 use Rattle.settings.proofs.model.Model.switching_entry.Statement.{statement}

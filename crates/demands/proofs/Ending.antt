@@ -34,7 +34,7 @@ use Rattle.instrument.specs.Replies.{replyText}
 use Rattle.instrument.specs.declared.Instrument.{Instrument}
 use Rattle.tpg.specs.Steps.{lineText, eventText, acted, next, sent}
 use Rattle.tpg.specs.declared.State.{State}
-use Rattle.demands.specs.Wire.{gathering, tellsWord}
+use Rattle.demands.specs.Wire.{choice, enqText, gathering, tellsError}
 
 -- ---- what a line is in a port
 
@@ -48,12 +48,6 @@ pub record Line (p : Port) (l : List ℕ) (selection : Selection) (error : Word)
   pub word : p .error ≡ error
 
 -- ---- its end
-
--- the selection after a line
-abbrev pub choice : Verdict → Selection
-choice (Asks a) = Chosen a
-choice (Writes m r) = selected m
-choice (Refused x) = Nothing
 
 -- another selection and error word beside it
 line-chosen : {p : Port} {l : List ℕ} {selection : Selection} {error : Word} → Line p l selection error → (x : Selection) (w v : Word) → w ≡ v → Line (withChoice p x w) l x v
@@ -107,17 +101,12 @@ pub record Held (p : Port) (l : List ℕ) (selection : Selection) (error : Word)
 pub held-line : {p : Port} {l : List ℕ} {selection : Selection} {error : Word} → Line p l selection error → Held p l selection error
 held-line h = record { text = rw (h .good) (h .text); chosen = h .chosen; word = h .word }
 
--- what an ENQ on an empty line is answered with, and the error word after it: it is gone where it was sent
-abbrev pub enqText : Instrument → Word → Selection → List ℕ
-enqText s error Nothing = replyText s error (OfQuery Err)
-enqText s error (Chosen m) = replyText s error m
-
+-- the error word after an ENQ on an empty line: it is gone where it was sent
 abbrev pub wordLeft : Word → Selection → Word
-wordLeft error Nothing = noError
-wordLeft error (Chosen m) = cond (isErr m) noError error
+wordLeft error selection = cond (tellsError selection) noError error
 
 -- a reply tells the error word only where it is ERR's or stands for none, and then the word is gone
-pub reply-without-word : (s : Instrument) (error : Word) (selection : Selection) → enqText s (wordLeft error selection) selection ≡ enqText s noError selection
+pub reply-without-word : (s : Instrument) (error : Word) (selection : Selection) → enqText s selection (wordLeft error selection) ≡ enqText s selection noError
 unfolding replyText isErr same
 reply-without-word s error Nothing = refl
 reply-without-word s error (Chosen (OfSetting x)) = refl
@@ -129,23 +118,16 @@ reply-without-word s error (Chosen (OfQuery Tid)) = refl
 reply-without-word s error (Chosen (OfQuery Ayt)) = refl
 reply-without-word s error (Chosen (OfQuery Err)) = refl
 
--- an ENQ sends it where no mnemonic is selected, or ERR is
-pub told-word : (error : Word) (m : Mnemonic) → wordLeft error (selected m) ≡ cond (tellsWord m) noError error
-told-word error (OfReplying a) = refl
-told-word error Com = refl
-told-word error Sav = refl
-
 -- it is gone for good
 pub word-stays-gone : (error : Word) (selection : Selection) → wordLeft (wordLeft error selection) selection ≡ wordLeft error selection
-word-stays-gone error Nothing = refl
-word-stays-gone error (Chosen m) = by (isErr m)
+word-stays-gone error selection = by (tellsError selection)
   where
     by : (t : Bool) → cond t noError (cond t noError error) ≡ cond t noError error
     by true = refl
     by false = refl
 
 pub record Replied (s : Instrument) (error : Word) (selection : Selection) (bytes : List ℕ) (next : State) : Type 0 where
-  pub reply : bytes ≡ enqText s error selection
+  pub reply : bytes ≡ enqText s selection error
   pub instrument : next .instrument ≡ s
   pub line : Line (next .port) [] selection (wordLeft error selection)
 
@@ -161,7 +143,7 @@ unfolding asked
 asked-empty {p} h = let empty : isEmpty p ≡ true = rw (h .good, h .count) in rw empty (ap (bySelection p) (h .chosen))
 
 answered-line : (s : Instrument) {p : Port} {selection : Selection} {error : Word} → Line p [] selection error
-    → (eventText s (bySelection p selection .event) ≡ enqText s error selection) × (acted s (bySelection p selection .event) ≡ s) × Line (bySelection p selection .port) [] selection (wordLeft error selection)
+    → (eventText s (bySelection p selection .event) ≡ enqText s selection error) × (acted s (bySelection p selection .event) ≡ s) × Line (bySelection p selection .port) [] selection (wordLeft error selection)
 unfolding eventText
 answered-line s {p} {selection = Nothing} h = (ap (λ (w : Word). replyText s w (OfQuery Err)) (h .word), refl, line-chosen (emptied-line p (h .chosen) (h .word)) Nothing noError noError refl)
 answered-line s {selection = Chosen m} h = (ap (λ (w : Word). replyText s w m) (h .word), refl, replied-line h)

@@ -37,15 +37,16 @@ use Rattle.lines.proofs.Accepted.{Spelt, all-spelt}
 use Rattle.lines.proofs.WrittenLimits.{writes-fitting}
 use Rattle.ports.specs.Hearing.{selected}
 use Rattle.ports.specs.declared.Selection.{Selection}
+use Rattle.ports.specs.declared.Selection.the-variants.{Nothing, Chosen}
 use Rattle.instrument.specs.Events.{written, applied}
 use Rattle.instrument.specs.Replies.{replyText}
 use Rattle.instrument.specs.declared.Instrument.{Instrument}
 use Rattle.tpg.specs.States.{Sound}
 use Rattle.tpg.specs.Steps.{lineText, next, after, said}
 use Rattle.tpg.specs.declared.State.{State}
-use Rattle.demands.specs.Wire.{ackLine, nakLine, Inner, lineIn, ended, Start, onEmpty, afterEtx, opened, Ready, enquiries, asOften, selectedText, errorText, answered, gathering, errorLeft, writtenText}
+use Rattle.demands.specs.Wire.{ackLine, nakLine, Inner, lineIn, ended, Start, onEmpty, afterEtx, opened, Ready, enquiries, asOften, choice, enqText, answered, gathering, errorLeft, writtenText}
 use Rattle.demands.specs.Replies.{Answers, Left, Leaves, Reads, WritesBack, Replies}
-use Rattle.demands.proofs.Ending.{Line, choice, enqText}
+use Rattle.demands.proofs.Ending.{Line}
 use Rattle.demands.proofs.Typing.{line-enquired, line-left, anew-line, anew-instrument, anew-said, anew-after, empty-line}
 use Rattle.demands.proofs.Spelling.{typeable-inner, typeable-line, Short, names-short, name-typeable, name-judged}
 
@@ -57,15 +58,10 @@ unfolding asOften
 often-same zero f g same error = refl
 often-same (suc n) f g same error = ap₂ (λ (t u : List ℕ). t ++ u) (same error) (often-same n f g same noError)
 
-selected-text : (s : Instrument) (m : Mnemonic) (error : Word) → enqText s error (selected m) ≡ selectedText s m error
-selected-text s (OfReplying a) error = refl
-selected-text s Com error = refl
-selected-text s Sav error = refl
-
 answered-text : (n : ℕ) (s : Instrument) (error : Word) (v : Verdict)
-    → lineText v ++ asOften n (λ (w : Word). enqText (applied s v) w (choice v)) (gathering error v) ≡ answered n s error v
+    → lineText v ++ asOften n (enqText (applied s v) (choice v)) (gathering error v) ≡ answered n s error v
 answered-text n s error (Asks a) = refl
-answered-text n s error (Writes m r) = ap (λ (t : List ℕ). ackLine ++ t) (often-same n _ _ (selected-text (written s m r) m) error)
+answered-text n s error (Writes m r) = refl
 answered-text n s error (Refused x) = refl
 
 -- on an empty line, and with an ETX whatever came before: a line and its ENQs are answered by the verdict on the line
@@ -106,7 +102,7 @@ line-leaves s k w = by (w .start)
 
 -- told where the model has its channel, refused where it has not
 read-text : (n : ℕ) (s : Instrument) (error : Word) (a : Replying) (there : Bool)
-    → answered n s error (cond there (Asks a) (Refused Hardware)) ≡ cond there (ackLine ++ asOften n (λ (w : Word). replyText s w a) error) (nakLine ++ asOften n (errorText s) (gathered error Hardware))
+    → answered n s error (cond there (Asks a) (Refused Hardware)) ≡ cond there (ackLine ++ asOften n (enqText s (Chosen a)) error) (nakLine ++ asOften n (enqText s Nothing) (gathered error Hardware))
 read-text n s error a true = refl
 read-text n s error a false = refl
 
@@ -126,7 +122,7 @@ reads s k Sav sp short = tt
 module _ (s : State) (k : Sound s) where
   -- what the ENQ tells of a line that wrote is what it wrote
   Back : Mnemonic → Type 0
-  Back m = (r : Row) → Fitting (entry m .fields (s .instrument .model)) r → (error : Word) → selectedText (written (s .instrument) m r) m error ≡ writtenText (s .instrument) m r error
+  Back m = (r : Row) → Fitting (entry m .fields (s .instrument .model)) r → (error : Word) → enqText (written (s .instrument) m r) (selected m) error ≡ writtenText (s .instrument) m r error
 
   -- the cells of a setting are the line's
   setting-back : (x : Setting) → Holding x → Back (setting x)

@@ -18,7 +18,6 @@ use Rattle.lines.specs.Words.{noError}
 use Rattle.lines.specs.Judging.{judged}
 use Rattle.lines.specs.declared.word.Word.{Word}
 use Rattle.lines.specs.declared.verdict.Verdict.{Verdict}
-use Rattle.lines.specs.declared.verdict.Verdict.the-variants.{Asks, Writes, Refused}
 use Rattle.ports.specs.Line.{spoilt, grown, isEmpty}
 use Rattle.ports.specs.Hearing.{withMark, isDropped}
 use Rattle.ports.specs.Walk.{settled}
@@ -36,8 +35,8 @@ use Rattle.tpg.specs.States.{Sound}
 use Rattle.tpg.specs.Steps.{lineText, eventText, acted, hearing, next, sent, after, said}
 use Rattle.tpg.specs.declared.State.{State}
 use Rattle.tpg.proofs.HostRun.{after-append, said-append}
-use Rattle.demands.specs.Wire.{Inner, undropped, isGood, lineIn, End, byCr, byCrLf, ended, anew, enquiries, asOften, gathering, errorLeft}
-use Rattle.demands.proofs.Ending.{Line, choice, marked-line, settled-line, Judged, Held, held-line, enqText, wordLeft, reply-without-word, told-word, word-stays-gone, cr-judges, enq-replies, lf-nothing, etx-empties}
+use Rattle.demands.specs.Wire.{Inner, undropped, isGood, lineIn, End, byCr, byCrLf, ended, anew, enquiries, asOften, choice, enqText, gathering, errorLeft}
+use Rattle.demands.proofs.Ending.{Line, marked-line, settled-line, Judged, Held, held-line, wordLeft, reply-without-word, word-stays-gone, cr-judges, enq-replies, lf-nothing, etx-empties}
 
 -- ---- the bytes of a line
 
@@ -165,10 +164,10 @@ good-run (b ∷ bytes) s front {selection} {error} inner h c few =
 -- ---- so many ENQs
 
 -- only the first can tell the error word
-replies-without-word : (n : ℕ) (s : Instrument) (error : Word) (x : Selection) → asOften n (λ (w : Word). enqText s w x) (wordLeft error x) ≡ asOften n (λ (w : Word). enqText s w x) noError
+replies-without-word : (n : ℕ) (s : Instrument) (error : Word) (x : Selection) → asOften n (enqText s x) (wordLeft error x) ≡ asOften n (enqText s x) noError
 unfolding asOften
 replies-without-word zero s error x = refl
-replies-without-word (suc n) s error x = ap (λ (t : List ℕ). t ++ asOften n (λ (w : Word). enqText s w x) noError) (reply-without-word s error x)
+replies-without-word (suc n) s error x = ap (λ (t : List ℕ). t ++ asOften n (enqText s x) noError) (reply-without-word s error x)
 
 -- the error word after them
 abbrev wordAfter : ℕ → Word → Selection → Word
@@ -189,20 +188,18 @@ enqs-keep (suc n) s {x} {error} h =
     let k = enqs-keep n (next s enq) (r .line) in
     (k .0 ∙ r .instrument, subst (Line (after (next s enq) (enquiries n) .port) [] x) (word-gone n error x) (k .1))
 
-enqs-replied : (n : ℕ) (s : State) {x : Selection} {error : Word} → Line (s .port) [] x error → said s (enquiries n) ≡ asOften n (λ (w : Word). enqText (s .instrument) w x) error
+enqs-replied : (n : ℕ) (s : State) {x : Selection} {error : Word} → Line (s .port) [] x error → said s (enquiries n) ≡ asOften n (enqText (s .instrument) x) error
 unfolding said asOften
 enqs-replied zero s h = refl
 enqs-replied (suc n) s {x} {error} h =
     let r = enq-replies s h in
     ap₂ (λ (t u : List ℕ). t ++ u) (r .reply)
-    (enqs-replied n (next s enq) (r .line) ∙ ap (λ (t : Instrument). asOften n (λ (w : Word). enqText t w x) (wordLeft error x)) (r .instrument) ∙ replies-without-word n (s .instrument) error x)
+    (enqs-replied n (next s enq) (r .line) ∙ ap (λ (t : Instrument). asOften n (enqText t x) (wordLeft error x)) (r .instrument) ∙ replies-without-word n (s .instrument) error x)
 
 -- the word that a line and its ENQs leave
 word-left : (n : ℕ) (error : Word) (v : Verdict) → wordAfter n (gathering error v) (choice v) ≡ errorLeft n error v
 word-left zero error v = refl
-word-left (suc n) error (Refused x) = refl
-word-left (suc n) error (Asks a) = refl
-word-left (suc n) error (Writes m r) = told-word error m
+word-left (suc n) error v = refl
 
 -- ---- a line and its end
 
@@ -237,13 +234,13 @@ module _ (s : State) {selection : Selection} {error : Word} (empty : Line (s .po
   line-judged byCrLf = lf-judged
 
   -- and so many ENQs behind it
-  pub line-enquired : (e : End) (n : ℕ) → said s (ended e bytes ++ enquiries n) ≡ lineText v ++ asOften n (λ (w : Word). enqText (applied (s .instrument) v) w (choice v)) (gathering error v)
+  pub line-enquired : (e : End) (n : ℕ) → said s (ended e bytes ++ enquiries n) ≡ lineText v ++ asOften n (enqText (applied (s .instrument) v) (choice v)) (gathering error v)
   line-enquired e n =
       let j = line-judged e in
       said-append (ended e bytes) (enquiries n) s
       ∙ ap₂ (λ (t u : List ℕ). t ++ u) (j .reply)
       (enqs-replied n (after s (ended e bytes)) (j .line)
-      ∙ ap (λ (t : Instrument). asOften n (λ (w : Word). enqText t w (choice v)) (gathering error v)) (j .instrument))
+      ∙ ap (λ (t : Instrument). asOften n (enqText t (choice v)) (gathering error v)) (j .instrument))
 
   -- and what they leave behind
   pub line-left : (e : End) (n : ℕ) → let t = after s (ended e bytes ++ enquiries n) in

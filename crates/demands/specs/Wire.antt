@@ -26,7 +26,9 @@ use Rattle.lines.specs.declared.word.Word.{Word}
 use Rattle.lines.specs.declared.verdict.Verdict.{Verdict}
 use Rattle.lines.specs.declared.verdict.Verdict.the-variants.{Asks, Writes, Refused}
 use Rattle.ports.specs.Line.{isEmpty}
-use Rattle.ports.specs.Hearing.{isDropped}
+use Rattle.ports.specs.Hearing.{isDropped, selected}
+use Rattle.ports.specs.declared.Selection.{Selection}
+use Rattle.ports.specs.declared.Selection.the-variants.{Nothing, Chosen}
 use Rattle.instrument.specs.Events.{written}
 use Rattle.instrument.specs.Replies.{replyText}
 use Rattle.instrument.specs.declared.Instrument.{Instrument}
@@ -110,21 +112,22 @@ unfoldable pub asOften : ℕ → (Word → List ℕ) → Word → List ℕ
 asOften zero text error = []
 asOften (suc n) text error = text error ++ asOften n text noError
 
--- ENQ after a refused line, which "clears the selection": it "sends the error word", as ERR does
-abbrev pub errorText : Instrument → Word → List ℕ
-errorText s error = replyText s error (OfQuery Err)
+-- "An accepted line .. selects its mnemonic"; "A refused one .. clears the selection."
+abbrev pub choice : Verdict → Selection
+choice (Asks a) = Chosen a
+choice (Writes m r) = selected m
+choice (Refused x) = Nothing
 
--- after an accepted one: "the selected mnemonic's reply"; "after COM and SAV the selection is none"
-abbrev pub selectedText : Instrument → Mnemonic → Word → List ℕ
-selectedText s (OfReplying a) error = replyText s error a
-selectedText s Com error = errorText s error
-selectedText s Sav error = errorText s error
+-- ENQ "sends the selected mnemonic's reply"; "With no selection .. sends the error word", as ERR does
+abbrev pub enqText : Instrument → Selection → Word → List ℕ
+enqText s Nothing error = replyText s error (OfQuery Err)
+enqText s (Chosen a) error = replyText s error a
 
 -- what comes back for a line and so many ENQs behind it
 abbrev pub answered : ℕ → Instrument → Word → Verdict → List ℕ
-answered n s error (Asks a) = ackLine ++ asOften n (selectedText s (OfReplying a)) error
-answered n s error (Writes m r) = ackLine ++ asOften n (selectedText (written s m r) m) error
-answered n s error (Refused x) = nakLine ++ asOften n (errorText s) (gathered error x)
+answered n s error (Asks a) = ackLine ++ asOften n (enqText s (Chosen a)) error
+answered n s error (Writes m r) = ackLine ++ asOften n (enqText (written s m r) (selected m)) error
+answered n s error (Refused x) = nakLine ++ asOften n (enqText s Nothing) (gathered error x)
 
 -- ---- what it leaves behind
 
@@ -135,27 +138,21 @@ gathering error (Writes m r) = error
 gathering error (Refused x) = gathered error x
 
 -- "in either way of an ENQ or through ERR": whether an ENQ behind the line sends the word
-abbrev pub tellsWord : Mnemonic → Bool
-tellsWord (OfReplying a) = isErr a
-tellsWord Com = true
-tellsWord Sav = true
-
-abbrev pub tellsError : Verdict → Bool
-tellsError (Asks a) = isErr a
-tellsError (Writes m r) = tellsWord m
-tellsError (Refused x) = true
+abbrev pub tellsError : Selection → Bool
+tellsError Nothing = true
+tellsError (Chosen a) = isErr a
 
 -- "then it is 0000"
 abbrev pub errorLeft : ℕ → Word → Verdict → Word
 errorLeft zero error v = gathering error v
-errorLeft (suc n) error v = cond (tellsError v) noError (gathering error v)
+errorLeft (suc n) error v = cond (tellsError (choice v)) noError (gathering error v)
 
 -- ---- reading and writing a setting
 
 -- for a mnemonic alone that has a reply: "PR2 or CF2 on a 361, 0100", and any other is told
 abbrev pub readText : ℕ → Instrument → Word → Replying → List ℕ
 readText n s error a =
-    cond (isThere (s .model) (OfReplying a)) (ackLine ++ asOften n (λ (w : Word). replyText s w a) error) (nakLine ++ asOften n (errorText s) (gathered error (fault 100)))
+    cond (isThere (s .model) (OfReplying a)) (ackLine ++ asOften n (enqText s (Chosen a)) error) (nakLine ++ asOften n (enqText s Nothing) (gathered error (fault 100)))
 
 -- what the ENQ tells after a line that wrote: the line's own values; "CFx takes one factor and answers one per channel"; a mnemonic without
 -- fields has nothing to write
@@ -163,5 +160,5 @@ abbrev pub writtenText : Instrument → Mnemonic → Row → Word → List ℕ
 writtenText s (OfReplying (OfSetting x)) r error = joined (texts (kinds (s .model) (setting x)) (take (fieldCount (s .model) x) (listed r))) ++ crLf
 writtenText s (OfReplying (Cf k)) r error = joined (texts (kinds (s .model) (setting Cal)) (set (cells (s .model) (s .settings) Cal) k (r .first))) ++ crLf
 writtenText s (OfReplying (OfQuery q)) r error = replyText s error (OfQuery q)
-writtenText s Com r error = errorText s error
-writtenText s Sav r error = errorText s error
+writtenText s Com r error = enqText s Nothing error
+writtenText s Sav r error = enqText s Nothing error

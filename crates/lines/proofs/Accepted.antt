@@ -14,7 +14,7 @@ use Rattle.ground.proofs.Members.{each-map, each-both, every-each, map-each}
 use Rattle.numbers.specs.declared.threshold.Threshold.{Threshold}
 use Rattle.settings.specs.Cells.{listed, rowOf}
 use Rattle.settings.specs.Table.{switchingEntry, storedEntry, settingEntry, kinds}
-use Rattle.settings.specs.Mnemonics.{held, sheet, setting, known, name, same, found, recognised, isThere}
+use Rattle.settings.specs.Mnemonics.{settingsHeld, sheet, setting, known, name, same, found, recognised, isThere}
 use Rattle.settings.specs.Rows.{row, cells}
 use Rattle.settings.specs.Limits.{fits, cellsFit, within}
 use Rattle.settings.specs.declared.model.Model.{Model}
@@ -149,9 +149,9 @@ all-spelt model =
     (λ m p q. record { plain = each-map _ _ (λ b. not-true (eqb b (code ","))) (name m) (every-each _ (name m) p); back = q }) (known model)
     (every-each (λ m. commaless (name m)) (known model) (all-commaless model)) (all-found model)
 
-all-sound : (model : Model) → every (λ x. every sound (kinds model (setting x))) held ≡ true
+all-sound : (model : Model) → every (λ x. every sound (kinds model (setting x))) settingsHeld ≡ true
 unfolding every switchingEntry storedEntry
-all-sound = tested (λ model. every (λ x. every sound (kinds model (setting x))) held) refl
+all-sound = tested (λ model. every (λ x. every sound (kinds model (setting x))) settingsHeld) refl
 
 -- ---- the settings of the sheet
 
@@ -161,7 +161,7 @@ sheet-takes model x o =
     record {
       there = first-there model;
       some = rw (count-kinds (settingEntry x .fields model) (few model (setting x))) (ltb-true 0 (settingEntry x .fields model .count) (o .taken));
-      sounds = every-each sound ks (held-each (λ y. every sound (kinds model (setting y)) ≡ true) (every-each (λ y. every sound (kinds model (setting y))) held (all-sound model)) x (o .holding));
+      sounds = every-each sound ks (held-each (λ y. every sound (kinds model (setting y)) ≡ true) (every-each (λ y. every sound (kinds model (setting y))) settingsHeld (all-sound model)) x (o .holding));
     }
 
 pub accepted : (model : Model) (x : Setting) → OnSheet model x → (cs : List Threshold) → AllFit (kinds model (setting x)) cs

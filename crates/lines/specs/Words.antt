@@ -1,8 +1,8 @@
 -- The error word (01, "Bytes from the host").
 use Prim.Native.Nat.{ℕ, _+_}
 use mathlib.Core.List.{List, [], _∷_}
-use mathlib.Core.Bool.{Bool, true, false, cond}
-use lib.Dec.{eqb}
+use mathlib.Core.Bool.{true, false, cond}
+use Rattle.ground.specs.Members.{byNumber}
 use Rattle.text.specs.Digits.{paddedText}
 use Rattle.lines.specs.declared.verdict.Fault.{Fault}
 use Rattle.lines.specs.declared.verdict.Fault.the-variants.{Syntax, Parameter, Hardware}
@@ -14,19 +14,12 @@ errorWord Syntax = 1
 errorWord Parameter = 10
 errorWord Hardware = 100
 
--- one more fault in front, if it is the one
-abbrev pub chosen : Bool → Fault → (A : Type 0) × A → (A : Type 0) × A
-chosen true x r = (Fault, x)
-chosen false x r = r
+-- the fault of a word: `fault 10` is one; `fault 11`, which is no fault's word, is of another type
+abbrev pub faults : List Fault
+faults = Syntax ∷ Parameter ∷ Hardware ∷ []
 
--- the fault of a word, with its type: a word that is no fault's has none
-abbrev pub worded : ℕ → List Fault → (A : Type 0) × A
-worded w [] = (Unit {0}, tt)
-worded w (x ∷ xs) = chosen (eqb (errorWord x) w) x (worded w xs)
-
--- `fault 10` is one; `fault 11` is of another type
-abbrev pub fault : (w : ℕ) → worded w (Syntax ∷ Parameter ∷ Hardware ∷ []) .0
-fault w = worded w (Syntax ∷ Parameter ∷ Hardware ∷ []) .1
+abbrev pub fault : (w : ℕ) → byNumber errorWord faults w .0
+fault w = byNumber errorWord faults w .1
 
 -- the digits that are set; "1000 never arises here."
 abbrev pub wordNumber : Word → ℕ

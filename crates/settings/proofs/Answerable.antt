@@ -13,7 +13,7 @@ use Rattle.ground.proofs.Members.{each-map, each-at, every-each, map-each}
 use Rattle.text.specs.Text.{ascii}
 use Rattle.settings.specs.Models.{channels}
 use Rattle.settings.specs.Table.{TableRow, nothing, switchings, storedTable, switchingEntry, storedEntry, settingEntry}
-use Rattle.settings.specs.Mnemonics.{held, takes, sheet, others, setting, known, name, same, found, recognised, isKnown, channelOf, isThere, answers, isErr}
+use Rattle.settings.specs.Mnemonics.{settingsHeld, takes, sheet, others, setting, known, name, same, found, recognised, isKnown, channelOf, isThere, answers, isErr}
 use Rattle.settings.specs.declared.model.Model.{Model}
 use Rattle.settings.specs.declared.mnemonic.Setting.{Setting}
 use Rattle.settings.specs.declared.mnemonic.Setting.the-variants.{Uni, Cal, Sp, Stored}
@@ -38,11 +38,11 @@ unfolding recognised known sheet found same switchingEntry storedEntry
 no-name = every-model (λ model. recognised model (nothing .name) ≡ Unknown) (refl, (refl, tt))
 
 -- what is held is known exactly where the model takes it
-held-known : (model : Model) → Each (λ x. Bool·beq (takes model x) (isKnown (recognised model (name (setting x)))) ≡ true) held
+held-known : (model : Model) → Each (λ x. Bool·beq (takes model x) (isKnown (recognised model (name (setting x)))) ≡ true) settingsHeld
 unfolding recognised known sheet found same switchingEntry storedEntry every
 held-known model =
-    every-each (λ x. Bool·beq (takes model x) (isKnown (recognised model (name (setting x))))) held
-    (tested (λ m. every (λ x. Bool·beq (takes m x) (isKnown (recognised m (name (setting x))))) held) refl model)
+    every-each (λ x. Bool·beq (takes model x) (isKnown (recognised model (name (setting x))))) settingsHeld
+    (tested (λ m. every (λ x. Bool·beq (takes m x) (isKnown (recognised m (name (setting x))))) settingsHeld) refl model)
 
 setting-known : (model : Model) (x : Setting) → takes model x ≡ isKnown (recognised model (name (setting x)))
 setting-known model x = by x

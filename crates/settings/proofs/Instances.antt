@@ -12,7 +12,7 @@ use Rattle.text.specs.Text.{ascii}
 use Rattle.numbers.specs.declared.threshold.Threshold.{Threshold}
 use Rattle.settings.specs.Models.{modelOf, channels, names, powerOnMode, startsOn, follows, agrees}
 use Rattle.settings.specs.Table.{switchingEntry, storedEntry, defaults}
-use Rattle.settings.specs.Mnemonics.{held, sheet, sheetAt, setting, known, name, same, found, recognised, channelOf, isErr}
+use Rattle.settings.specs.Mnemonics.{settingsHeld, sheet, sheetAt, setting, known, name, same, found, recognised, channelOf, isErr}
 use Rattle.settings.specs.Cells.{pairRow, firstNumber, listed}
 use Rattle.settings.specs.Rows.{row, withStored}
 use Rattle.settings.specs.Limits.{cellsFit, within}
@@ -78,7 +78,7 @@ second-channel = refl
 -- ---- settings
 
 -- the first cell of each
-pub default-numbers : (model : Model) → map (λ (x : Setting). firstNumber (row (defaults model) x)) held ≡ 4 ∷ 2 ∷ 1000 ∷ 0 ∷ 0 ∷ 0 ∷ 0 ∷ 0 ∷ 0 ∷ 0 ∷ 0 ∷ 0 ∷ 1 ∷ 0 ∷ 0 ∷ 0 ∷ 0 ∷ []
+pub default-numbers : (model : Model) → map (λ (x : Setting). firstNumber (row (defaults model) x)) settingsHeld ≡ 4 ∷ 2 ∷ 1000 ∷ 0 ∷ 0 ∷ 0 ∷ 0 ∷ 0 ∷ 0 ∷ 0 ∷ 0 ∷ 0 ∷ 1 ∷ 0 ∷ 0 ∷ 0 ∷ 0 ∷ []
 default-numbers model = refl
 
 -- lower and upper of each switching function

@@ -11,7 +11,7 @@ use lib.Dec.{eqb}
 use borrow.Author.Tests.{eqb-true}
 use Rattle.ground.specs.Members.{every}
 use Rattle.settings.specs.Table.{switchingEntry, storedEntry}
-use Rattle.settings.specs.Mnemonics.{held, sheet, sheetAt, others, setting, known, knownAt, name, same, found, recognised}
+use Rattle.settings.specs.Mnemonics.{settingsHeld, sheet, sheetAt, others, setting, known, knownAt, name, same, found, recognised}
 use Rattle.settings.specs.declared.model.Model.{Model}
 use Rattle.settings.specs.declared.mnemonic.Setting.the-variants.{Uni}
 use Rattle.settings.specs.declared.mnemonic.Mnemonic.{Mnemonic}
@@ -21,24 +21,24 @@ use Rattle.settings.proofs.Every.{every-model, tested}
 -- ---- places in the list of all that are known
 
 -- the models that there are have all that is held on their sheet
-pub sheet-whole : (model : Model) → sheet model ≡ held
+pub sheet-whole : (model : Model) → sheet model ≡ settingsHeld
 unfolding sheet switchingEntry storedEntry
-sheet-whole = every-model (λ model. sheet model ≡ held) (refl, (refl, tt))
+sheet-whole = every-model (λ model. sheet model ≡ settingsHeld) (refl, (refl, tt))
 
-pub known-whole : (model : Model) → known model ≡ map setting held ++ others
+pub known-whole : (model : Model) → known model ≡ map setting settingsHeld ++ others
 unfolding known
 known-whole model = ap (λ xs. map setting xs ++ others) (sheet-whole model)
 
 pub known-sheet : (model : Model) (i : ℕ) → i < 17 → setting (sheetAt model i) ≡ knownAt model i
 known-sheet model i h =
     rw (known-whole model, sheet-whole model)
-    (sym (List·getD-append (map setting held) others (setting Uni) i h ∙ List·getD-map setting held i Uni))
+    (sym (List·getD-append (map setting settingsHeld) others (setting Uni) i h ∙ List·getD-map setting settingsHeld i Uni))
 
 pub known-others : (model : Model) (i : ℕ) → 17 ≤ i → getD others (i - 17) (setting Uni) ≡ knownAt model i
 known-others model i h =
     let q : 17 + (i - 17) ≡ i = omega (arith, h) in
     rw (known-whole model)
-    (sym (getD-append-add (map setting held) others (i - 17) (setting Uni)) ∙ ap (λ (k : ℕ). getD (map setting held ++ others) k (setting Uni)) q)
+    (sym (getD-append-add (map setting settingsHeld) others (i - 17) (setting Uni)) ∙ ap (λ (k : ℕ). getD (map setting settingsHeld ++ others) k (setting Uni)) q)
 
 pub known-length : (model : Model) → length (known model) ≡ 28
 known-length model = rw (known-whole model)

@@ -17,7 +17,7 @@ use Rattle.ground.proofs.Members.{each-map, each-both, each-all, each-take, eac
 use Rattle.numbers.specs.declared.threshold.Threshold.{Threshold}
 use Rattle.settings.specs.Cells.{plain, listed}
 use Rattle.settings.specs.Table.{kindsOf, settingEntry}
-use Rattle.settings.specs.Mnemonics.{held, takes, sheet, others, setting, known}
+use Rattle.settings.specs.Mnemonics.{settingsHeld, takes, sheet, others, setting, known}
 use Rattle.settings.specs.Rows.{row, fieldCount, cells}
 use Rattle.settings.specs.Limits.{sameCell, fits, rowWithin, within, SettingsShaped}
 use Rattle.settings.specs.declared.model.Model.{Model}
@@ -41,15 +41,15 @@ line Cal = 2
 line (Sp k) = 4 + k
 line (Stored k) = cond (ltb k 2) (1 + 2 * k) (6 + k)
 
-on-line : {x : Setting} → Holding x → getD held (line x) Uni ≡ x
+on-line : {x : Setting} → Holding x → getD settingsHeld (line x) Uni ≡ x
 on-line uni = refl
 on-line cal = refl
-on-line (sp k h) = alike (λ i. getD held (line (Sp i)) Uni) Sp 4 refl k h
-on-line (kept k h) = alike (λ i. getD held (line (Stored i)) Uni) Stored 11 refl k h
+on-line (sp k h) = alike (λ i. getD settingsHeld (line (Sp i)) Uni) Sp 4 refl k h
+on-line (kept k h) = alike (λ i. getD settingsHeld (line (Stored i)) Uni) Stored 11 refl k h
 
 -- what holds of all that are held holds of every setting
-pub held-each : (P : Setting → Type 0) → Each P held → (x : Setting) → Holding x → P x
-held-each P e x h = subst P (on-line h) (each-at P held Uni (e .0) e (line x))
+pub held-each : (P : Setting → Type 0) → Each P settingsHeld → (x : Setting) → Holding x → P x
+held-each P e x h = subst P (on-line h) (each-at P settingsHeld Uni (e .0) e (line x))
 
 holds : Setting → Bool
 holds Uni = true
@@ -64,9 +64,9 @@ holds-holding Cal h = cal
 holds-holding (Sp k) h = sp k (ltb-true k 4 h)
 holds-holding (Stored k) h = kept k (ltb-true k 11 h)
 
-held-holding : Each Holding held
+held-holding : Each Holding settingsHeld
 unfolding holds every
-held-holding = each-map (λ x. holds x ≡ true) Holding holds-holding held (every-each holds held refl)
+held-holding = each-map (λ x. holds x ≡ true) Holding holds-holding settingsHeld (every-each holds settingsHeld refl)
 
 -- ---- the sheet: those of them that the model takes
 
@@ -77,13 +77,13 @@ pub record OnSheet (model : Model) (x : Setting) : Type 0 where
 pub sheet-holds : (model : Model) → Each (OnSheet model) (sheet model)
 unfolding sheet
 sheet-holds model =
-    each-both Holding (λ x. takes model x ≡ true) (OnSheet model) (λ x h t. record { holding = h; taken = t }) (those (takes model) held)
-    (each-those Holding (takes model) held held-holding) (those-each (takes model) held)
+    each-both Holding (λ x. takes model x ≡ true) (OnSheet model) (λ x h t. record { holding = h; taken = t }) (those (takes model) settingsHeld)
+    (each-those Holding (takes model) settingsHeld held-holding) (those-each (takes model) settingsHeld)
 
 -- what holds over the sheet holds of every setting that the model takes
 pub on-sheet : (P : Setting → Type 0) (model : Model) → Each P (sheet model) → {x : Setting} → OnSheet model x → P x
 unfolding sheet
-on-sheet P model e {x} o = held-each (λ y. takes model y ≡ true → P y) (each-taken P (takes model) held e) x (o .holding) (o .taken)
+on-sheet P model e {x} o = held-each (λ y. takes model y ≡ true → P y) (each-taken P (takes model) settingsHeld e) x (o .holding) (o .taken)
 
 -- and the others have no field, so no cell
 pub off-sheet : (model : Model) (s : Settings) (x : Setting) → takes model x ≡ false → cells model s x ≡ []
@@ -124,7 +124,7 @@ distinct-those p (x ∷ xs) d =
 
 pub sheet-distinct : (model : Model) → Distinct (sheet model)
 unfolding differing every apart sheet
-sheet-distinct model = distinct-those (takes model) held (all-apart held refl)
+sheet-distinct model = distinct-those (takes model) settingsHeld (all-apart settingsHeld refl)
 
 -- those behind a cut are apart from those before it
 pub distinct-cut : (n : ℕ) (xs : List Setting) → Distinct xs → Each (λ y. Each (λ x. y ≢ x) (take n xs)) (drop n xs)
@@ -144,7 +144,7 @@ pub same-or-apart : {x y : Setting} → Holding x → Holding y → (y ≡ x) �
 same-or-apart {x} {y} h g =
     ⊎-elim
     (λ (f : eqb (line y) (line x) ≡ false). inr (λ e. eqb-false (line y) (line x) f (ap line e)))
-    (λ (t : eqb (line y) (line x) ≡ true). inl (sym (on-line g) ∙ ap (λ i. getD held i Uni) (eqb-true (line y) (line x) t) ∙ on-line h))
+    (λ (t : eqb (line y) (line x) ≡ true). inl (sym (on-line g) ∙ ap (λ i. getD settingsHeld i Uni) (eqb-true (line y) (line x) t) ∙ on-line h))
     (dichotomy (eqb (line y) (line x)))
 
 -- ---- limits
@@ -153,11 +153,11 @@ module _ (model : Model) (s : Settings) where
   -- settings within their limits have each row within its own, and the other way round
   pub within-rows : within model s ≡ true → (x : Setting) → Holding x → rowWithin model s x ≡ true
   unfolding within
-  within-rows w = held-each (λ x. rowWithin model s x ≡ true) (every-each (rowWithin model s) held w)
+  within-rows w = held-each (λ x. rowWithin model s x ≡ true) (every-each (rowWithin model s) settingsHeld w)
 
   pub rows-within : ((x : Setting) → Holding x → rowWithin model s x ≡ true) → within model s ≡ true
   unfolding within
-  rows-within w = each-every (rowWithin model s) held (each-map Holding (λ x. rowWithin model s x ≡ true) w held held-holding)
+  rows-within w = each-every (rowWithin model s) settingsHeld (each-map Holding (λ x. rowWithin model s x ≡ true) w settingsHeld held-holding)
 
 -- cells beside one default are the same if they are so where there is a field
 same-placed : (t : Bool) (k : Kind) (c d e : Threshold) → cond t (fits k c) (sameCell c e) ≡ true → cond t (fits k d) (sameCell d e) ≡ true → (t ≡ true → c ≡ d) → c ≡ d

@@ -14,7 +14,7 @@ use Rattle.ground.specs.Members.{every}
 use Rattle.numbers.specs.declared.threshold.Threshold.{Threshold}
 use Rattle.settings.specs.Models.{channels}
 use Rattle.settings.specs.Cells.{plain, pairRow, firstNumber, secondNumber, listed, mixed}
-use Rattle.settings.specs.Table.{choice, factor, TableRow, switchings, switchingEntry, storedEntry, settingEntry, entry, defaults}
+use Rattle.settings.specs.Table.{channelChoice, factor, TableRow, switchings, switchingEntry, storedEntry, settingEntry, entry, defaults}
 use Rattle.settings.specs.Mnemonics.{setting}
 use Rattle.settings.specs.Rows.{row, stored}
 use Rattle.settings.specs.Limits.{sameCell, fits, cellsFit, rowFits, rowWithin, within, SettingsShaped}
@@ -66,7 +66,7 @@ fitting-canon model r uni f = sym (one-number (settingEntry Uni .fields model) r
 fitting-canon model r cal f = sym (two-numbers (settingEntry Cal .fields model) r f (cal-numbers model))
 fitting-canon model r (sp k h) f =
     let p = subst (λ (e : TableRow). Fitting (e .fields model) r) (switching-there k h) f in
-    let e = number-plain (choice model) (r .first) refl (row-places (switchings k .fields model) r (pairRow 0 0) p 0 (omega arith)) in
+    let e = number-plain (channelChoice model) (r .first) refl (row-places (switchings k .fields model) r (pairRow 0 0) p 0 (omega arith)) in
     ap (λ (c : Threshold). record { first = c; second = r .second; third = r .third }) (sym e)
 fitting-canon model r (kept k h) f = sym (two-numbers (settingEntry (Stored k) .fields model) r f (stored-numbers model k))
 

@@ -12,7 +12,7 @@ use Rattle.numbers.specs.Numbers.{withinStops}
 use Rattle.numbers.specs.declared.threshold.Threshold.{Threshold}
 use Rattle.settings.specs.Cells.{listed}
 use Rattle.settings.specs.Table.{kindsOf, settingEntry}
-use Rattle.settings.specs.Mnemonics.{held}
+use Rattle.settings.specs.Mnemonics.{settingsHeld}
 use Rattle.settings.specs.Rows.{row}
 use Rattle.settings.specs.declared.model.Model.{Model}
 use Rattle.settings.specs.declared.mnemonic.Setting.{Setting}
@@ -61,7 +61,7 @@ rowWithin model s x = rowFits (settingEntry x .fields model) (row s x) (settingE
 
 -- all settings that are held, on the model's sheet or not
 unfoldable pub within : Model → Settings → Bool
-within model s = every (rowWithin model s) held
+within model s = every (rowWithin model s) settingsHeld
 
 -- the arrays have their lengths, as the type of the settings says; what a list of a definition cannot say by itself
 pub record SettingsShaped (s : Settings) : Type 0 where

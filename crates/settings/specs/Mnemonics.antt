@@ -20,8 +20,8 @@ use Rattle.settings.specs.declared.mnemonic.Mnemonic.{Mnemonic}
 use Rattle.settings.specs.declared.mnemonic.Mnemonic.the-variants.{OfReplying, Com, Sav}
 
 -- all settings that are held: "UNI FIL CAL DCD SP1 SP2 SP3 SP4 ERA EVA FMT LNG NAD PRE PRO PUC DCS (.. in this order)"
-abbrev pub held : List Setting
-held = Uni ∷ Stored 0 ∷ Cal ∷ Stored 1 ∷ Sp 0 ∷ Sp 1 ∷ Sp 2 ∷ Sp 3 ∷ Stored 2 ∷ Stored 3 ∷ Stored 4 ∷ Stored 5 ∷ Stored 6 ∷ Stored 7 ∷ Stored 8 ∷ Stored 9 ∷ Stored 10 ∷ []
+abbrev pub settingsHeld : List Setting
+settingsHeld = Uni ∷ Stored 0 ∷ Cal ∷ Stored 1 ∷ Sp 0 ∷ Sp 1 ∷ Sp 2 ∷ Sp 3 ∷ Stored 2 ∷ Stored 3 ∷ Stored 4 ∷ Stored 5 ∷ Stored 6 ∷ Stored 7 ∷ Stored 8 ∷ Stored 9 ∷ Stored 10 ∷ []
 
 -- the model has a field of the setting
 abbrev pub takes : Model → Setting → Bool
@@ -29,7 +29,7 @@ takes model x = ltb 0 (settingEntry x .fields model .count)
 
 -- the sheet: those that the model takes, here all seventeen (`sheet-whole`)
 unfoldable pub sheet : Model → List Setting
-sheet model = those (takes model) held
+sheet model = those (takes model) settingsHeld
 
 -- a line of the sheet; past the last one it is the first
 abbrev pub sheetAt : Model → ℕ → Setting

@@ -32,8 +32,8 @@ whole low high = OfWhole (record { least = low; most = high; paired = high })
 
 -- "Assignment 3 and ERA 3 need channel 2": of 0 to 3, those up to the model's last channel; the others are "0100 where it needs
 -- channel 2 on a 361"
-abbrev pub choice : Model → Kind
-choice model = OfWhole (record { least = 0; most = channels model + 1; paired = 3 })
+abbrev pub channelChoice : Model → Kind
+channelChoice model = OfWhole (record { least = 0; most = channels model + 1; paired = 3 })
 
 -- "0.100 to 10.000"
 abbrev pub factor : Model → Kind
@@ -68,12 +68,12 @@ abbrev pub perChannel : List ℕ → ℕ → ℕ → ℕ → TableRow
 perChannel s low high default = numbers s channels (λ model. whole low high) default default
 
 -- "take no field"
-abbrev pub bare : List ℕ → TableRow
-bare s = numbers s (λ model. 0) (λ model. whole 0 0) 0 0
+abbrev pub fieldless : List ℕ → TableRow
+fieldless s = numbers s (λ model. 0) (λ model. whole 0 0) 0 0
 
 -- a number that is none of its family: no field, and a name that no host can send
 abbrev pub nothing : TableRow
-nothing = bare (0 ∷ 0 ∷ 0 ∷ [])
+nothing = fieldless (0 ∷ 0 ∷ 0 ∷ [])
 
 -- a name that ends with a number, counted from 1
 abbrev pub numbered : List ℕ → ℕ → List ℕ
@@ -93,7 +93,7 @@ unassigned = record {
 abbrev pub switchings : ℕ → TableRow
 switchings k = record {
   name = numbered (ascii "SP") k;
-  fields = λ model. record { count = 3; first = choice model; others = OfThreshold };
+  fields = λ model. record { count = 3; first = channelChoice model; others = OfThreshold };
   default = λ model. cellsOf unassigned;
 }
 
@@ -102,7 +102,7 @@ abbrev pub storedTable : List TableRow
 storedTable =
     perChannel (ascii "FIL") 0 3 2
     ∷ perChannel (ascii "DCD") 0 4 0
-    ∷ numbers (ascii "ERA") (λ model. 1) choice 0 0
+    ∷ numbers (ascii "ERA") (λ model. 1) channelChoice 0 0
     ∷ single (ascii "EVA") 0 1 0
     ∷ single (ascii "FMT") 0 1 0
     ∷ single (ascii "LNG") 0 2 0
@@ -130,12 +130,12 @@ settingEntry (Stored k) = storedEntry k
 abbrev pub replyingEntry : Replying → TableRow
 replyingEntry (OfSetting x) = settingEntry x
 replyingEntry (Cf k) = numbers (numbered (ascii "CF") k) (λ model. 1) factor 0 0
-replyingEntry (OfQuery Sps) = bare (ascii "SPS")
-replyingEntry (OfQuery (Pr k)) = bare (numbered (ascii "PR") k)
-replyingEntry (OfQuery Prx) = bare (ascii "PRX")
-replyingEntry (OfQuery Tid) = bare (ascii "TID")
-replyingEntry (OfQuery Ayt) = bare (ascii "AYT")
-replyingEntry (OfQuery Err) = bare (ascii "ERR")
+replyingEntry (OfQuery Sps) = fieldless (ascii "SPS")
+replyingEntry (OfQuery (Pr k)) = fieldless (numbered (ascii "PR") k)
+replyingEntry (OfQuery Prx) = fieldless (ascii "PRX")
+replyingEntry (OfQuery Tid) = fieldless (ascii "TID")
+replyingEntry (OfQuery Ayt) = fieldless (ascii "AYT")
+replyingEntry (OfQuery Err) = fieldless (ascii "ERR")
 
 -- "only COM (0 to 2) and SAV (0 to 1) then have a default": "COM alone is 1", "SAV with 0 or nothing"
 abbrev pub entry : Mnemonic → TableRow

@@ -1,7 +1,7 @@
 // The table of settings, row for row, and the mnemonics beside it: the name of each, its fields and its default.
 ghost use mathlib.Core.Path.{_≡_};
 ghost use mathlib.Core.List.{[], _∷_};
-ghost use Rattle.settings.specs.Table.{whole, choice, factor, numbers, single, perChannel, bare, nothing, numbered, switchingEntry, storedEntry, settingEntry, replyingEntry, entry, on, defaults};
+ghost use Rattle.settings.specs.Table.{whole, channelChoice, factor, numbers, single, perChannel, fieldless, nothing, numbered, switchingEntry, storedEntry, settingEntry, replyingEntry, entry, on, defaults};
 ghost use Rattle.settings.specs.Cells.{pairOf};
 ghost use Rattle.settings.specs.declared.mnemonic.Replying.the-variants.{OfQuery};
 use crate::Pair;
@@ -77,8 +77,8 @@ fn numbered(a: u8, b: u8, k: u8) -> [u8; 3]
 
 impl Model {
     // 0 and 1, and from 2 on a channel.
-    fn choice(self) -> Kind
-        ensures { λ r. ⌜ r ≡ choice self ⌝ }
+    fn channel_choice(self) -> Kind
+        ensures { λ r. ⌜ r ≡ channelChoice self ⌝ }
     {
         Kind::OfWhole(Limits {
             least: 0,
@@ -127,8 +127,8 @@ impl Model {
         self.numbers(name, self.channels(), whole(least, most), default, default)
     }
 
-    fn bare(self, name: [u8; 3]) -> Entry
-        ensures { λ r. ⌜ r ≡ on self (bare name) ⌝ }
+    fn fieldless(self, name: [u8; 3]) -> Entry
+        ensures { λ r. ⌜ r ≡ on self (fieldless name) ⌝ }
     {
         self.numbers(name, 0, whole(0, 0), 0, 0)
     }
@@ -137,7 +137,7 @@ impl Model {
     fn nothing(self) -> Entry
         ensures { λ r. ⌜ r ≡ on self nothing ⌝ }
     {
-        self.bare([0, 0, 0])
+        self.fieldless([0, 0, 0])
     }
 
     fn switching_entry(self, k: u8) -> Entry
@@ -146,7 +146,7 @@ impl Model {
         if k < 4 {
             let fields = Fields {
                 count: 3,
-                first: self.choice(),
+                first: self.channel_choice(),
                 others: Kind::OfThreshold,
             };
             let default = Row {
@@ -170,7 +170,7 @@ impl Model {
         match k {
             0 => self.per_channel(*b"FIL", 0, 3, 2),
             1 => self.per_channel(*b"DCD", 0, 4, 0),
-            2 => self.numbers(*b"ERA", 1, self.choice(), 0, 0),
+            2 => self.numbers(*b"ERA", 1, self.channel_choice(), 0, 0),
             3 => self.single(*b"EVA", 0, 1, 0),
             4 => self.single(*b"FMT", 0, 1, 0),
             5 => self.single(*b"LNG", 0, 2, 0),
@@ -198,12 +198,12 @@ impl Model {
         ensures { λ r. ⌜ r ≡ on self (replyingEntry (OfQuery q)) ⌝ }
     {
         match q {
-            Query::Sps => self.bare(*b"SPS"),
-            Query::Pr(k) => self.bare(numbered(b'P', b'R', k)),
-            Query::Prx => self.bare(*b"PRX"),
-            Query::Tid => self.bare(*b"TID"),
-            Query::Ayt => self.bare(*b"AYT"),
-            Query::Err => self.bare(*b"ERR"),
+            Query::Sps => self.fieldless(*b"SPS"),
+            Query::Pr(k) => self.fieldless(numbered(b'P', b'R', k)),
+            Query::Prx => self.fieldless(*b"PRX"),
+            Query::Tid => self.fieldless(*b"TID"),
+            Query::Ayt => self.fieldless(*b"AYT"),
+            Query::Err => self.fieldless(*b"ERR"),
         }
     }
 

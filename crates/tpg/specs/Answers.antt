@@ -1,6 +1,7 @@
 -- The answers of the calls (01, "Answer numbers of the calls").
-use Prim.Native.Nat.{ℕ, zero, suc}
+use Prim.Native.Nat.{ℕ}
 use mathlib.Core.List.{List, [], _∷_}
+use Rattle.ground.specs.Members.{byNumber}
 use Rattle.tpg.specs.declared.State.{State}
 use Rattle.tpg.specs.declared.answers.Answer.{Answer}
 use Rattle.tpg.specs.declared.answers.Answer.the-variants.{Accepted, BrokenState, NoModel, ShortOutput, NoChannel, BadReading}
@@ -15,19 +16,12 @@ number ShortOutput = 3
 number NoChannel = 4
 number BadReading = 5
 
--- the answers in the order of their numbers
+-- the answer of a number: `answer 5` is one; `answer 6`, which the table does not have, is of another type
 abbrev pub table : List Answer
 table = Accepted ∷ BrokenState ∷ NoModel ∷ ShortOutput ∷ NoChannel ∷ BadReading ∷ []
 
--- what stands in a list at a number, with its type: an answer, and past the end nothing
-abbrev pub standing : List Answer → ℕ → (A : Type 0) × A
-standing [] n = (Unit {0}, tt)
-standing (a ∷ rest) zero = (Answer, a)
-standing (a ∷ rest) (suc n) = standing rest n
-
--- the answer of a number: `answer 5` is one; `answer 6`, which the table does not have, is of another type
-abbrev pub answer : (n : ℕ) → standing table n .0
-answer n = standing table n .1
+abbrev pub answer : (n : ℕ) → byNumber number table n .0
+answer n = byNumber number table n .1
 
 -- "that state, counts 0"
 abbrev pub handed : Answer → State → Outcome

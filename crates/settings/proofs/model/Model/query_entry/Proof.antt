@@ -6,8 +6,8 @@ use Rattle.settings.proofs.model.Model.query_entry.Tie as tie
 enum-told : tie.Need-enum-told
 enum-told c = search needs
 
-bare-requires : tie.Need-bare-requires
-bare-requires c κs = search needs
+fieldless-requires : tie.Need-fieldless-requires
+fieldless-requires c κs = search needs
 
 enum-known-q : tie.Need-enum-known-q
 enum-known-q c = search needs
@@ -15,68 +15,68 @@ enum-known-q c = search needs
 numbered-requires : tie.Need-numbered-requires
 numbered-requires c κs = search needs
 
-bare-requires-2 : tie.Need-bare-requires-2
-bare-requires-2 c κs = search needs
+fieldless-requires-2 : tie.Need-fieldless-requires-2
+fieldless-requires-2 c κs = search needs
 
 enum-told-2 : tie.Need-enum-told-2
 enum-told-2 c = search needs
 
-bare-requires-3 : tie.Need-bare-requires-3
-bare-requires-3 c κs = search needs
+fieldless-requires-3 : tie.Need-fieldless-requires-3
+fieldless-requires-3 c κs = search needs
 
 enum-told-3 : tie.Need-enum-told-3
 enum-told-3 c = search needs
 
-bare-requires-4 : tie.Need-bare-requires-4
-bare-requires-4 c κs = search needs
+fieldless-requires-4 : tie.Need-fieldless-requires-4
+fieldless-requires-4 c κs = search needs
 
 enum-told-4 : tie.Need-enum-told-4
 enum-told-4 c = search needs
 
-bare-requires-5 : tie.Need-bare-requires-5
-bare-requires-5 c κs = search needs
+fieldless-requires-5 : tie.Need-fieldless-requires-5
+fieldless-requires-5 c κs = search needs
 
 enum-told-5 : tie.Need-enum-told-5
 enum-told-5 c = search needs
 
-bare-requires-6 : tie.Need-bare-requires-6
-bare-requires-6 c κs = search needs
+fieldless-requires-6 : tie.Need-fieldless-requires-6
+fieldless-requires-6 c κs = search needs
 
 returns : tie.Need-returns
-returns c = rw (c .bare .ensures, c .before .before .before .enum-told .given .1)
+returns c = rw (c .fieldless .ensures, c .before .before .before .enum-told .given .1)
 
 returns-2 : tie.Need-returns-2
-returns-2 c = rw (c .bare2 .ensures, c .before .numbered .ensures, c .before .before .before .q .given .1)
+returns-2 c = rw (c .fieldless2 .ensures, c .before .numbered .ensures, c .before .before .before .q .given .1)
 
 returns-3 : tie.Need-returns-3
-returns-3 c = rw (c .bare3 .ensures, c .before .before .before .enum-told2 .given .1)
+returns-3 c = rw (c .fieldless3 .ensures, c .before .before .before .enum-told2 .given .1)
 
 returns-4 : tie.Need-returns-4
-returns-4 c = rw (c .bare4 .ensures, c .before .before .before .enum-told3 .given .1)
+returns-4 c = rw (c .fieldless4 .ensures, c .before .before .before .enum-told3 .given .1)
 
 returns-5 : tie.Need-returns-5
-returns-5 c = rw (c .bare5 .ensures, c .before .before .before .enum-told4 .given .1)
+returns-5 c = rw (c .fieldless5 .ensures, c .before .before .before .enum-told4 .given .1)
 
 returns-6 : tie.Need-returns-6
-returns-6 c = rw (c .bare6 .ensures, c .before .before .before .enum-told5 .given .1)
+returns-6 c = rw (c .fieldless6 .ensures, c .before .before .before .enum-told5 .given .1)
 
 pub query-entry-spec : {M : Type 1} → statement M
 query-entry-spec =
     tie.close
     (tie.spec
     enum-told
-    bare-requires
+    fieldless-requires
     enum-known-q
     numbered-requires
-    bare-requires-2
+    fieldless-requires-2
     enum-told-2
-    bare-requires-3
+    fieldless-requires-3
     enum-told-3
-    bare-requires-4
+    fieldless-requires-4
     enum-told-4
-    bare-requires-5
+    fieldless-requires-5
     enum-told-5
-    bare-requires-6
+    fieldless-requires-6
     returns
     returns-2
     returns-3

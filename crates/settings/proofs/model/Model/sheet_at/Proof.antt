@@ -2,7 +2,7 @@
 use mathlib.Core.Path.{sym}
 use lib.ListN.{List·getD-eq-default}
 use borrow.Author.Needs.{needs}
-use Rattle.settings.specs.Mnemonics.{held}
+use Rattle.settings.specs.Mnemonics.{settingsHeld}
 use Rattle.settings.specs.declared.mnemonic.Setting.the-variants.{Uni}
 use Rattle.settings.proofs.Names.{sheet-whole}
 use Rattle.settings.proofs.model.Model.sheet_at.Statement.{statement}
@@ -18,7 +18,7 @@ returns : tie.Need-returns
 returns c = rw (sheet-whole (c .before .before .args .self))
 
 returns-2 : tie.Need-returns-2
-returns-2 c = let a = c .before .args in rw (sheet-whole (a .self)) (sym (List·getD-eq-default held Uni {n = a .i} (c .if1 .left)))
+returns-2 c = let a = c .before .args in rw (sheet-whole (a .self)) (sym (List·getD-eq-default settingsHeld Uni {n = a .i} (c .if1 .left)))
 
 pub sheet-at-spec : {M : Type 1} → statement M
 sheet-at-spec = tie.close (tie.spec mul-result array-copy-out-result returns returns-2)

@@ -13,8 +13,8 @@ per-channel-requires c κs = search needs
 per-channel-requires-2 : tie.Need-per-channel-requires-2
 per-channel-requires-2 c κs = search needs
 
-choice-requires : tie.Need-choice-requires
-choice-requires c κs = search needs
+channel-choice-requires : tie.Need-channel-choice-requires
+channel-choice-requires c κs = search needs
 
 numbers-requires : tie.Need-numbers-requires
 numbers-requires c κs = search needs
@@ -56,7 +56,7 @@ returns-2 c = rw (c .before .before .before .match .keys2, c .per-channel2 .ensu
 
 returns-3 : tie.Need-returns-3
 unfolding storedEntry
-returns-3 c = rw (c .before .before .before .before .match .keys3, c .numbers .ensures, c .before .choice .ensures)
+returns-3 c = rw (c .before .before .before .before .match .keys3, c .numbers .ensures, c .before .channel-choice .ensures)
 
 returns-4 : tie.Need-returns-4
 unfolding storedEntry
@@ -102,7 +102,7 @@ stored-entry-spec =
     (tie.spec
     per-channel-requires
     per-channel-requires-2
-    choice-requires
+    channel-choice-requires
     numbers-requires
     single-requires
     single-requires-2

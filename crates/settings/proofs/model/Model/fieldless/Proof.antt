@@ -1,7 +1,7 @@
 -- No field: a row of no numbers.
 use borrow.Author.Needs.{needs}
-use Rattle.settings.proofs.model.Model.bare.Statement.{statement}
-use Rattle.settings.proofs.model.Model.bare.Tie as tie
+use Rattle.settings.proofs.model.Model.fieldless.Statement.{statement}
+use Rattle.settings.proofs.model.Model.fieldless.Tie as tie
 
 whole-requires : tie.Need-whole-requires
 whole-requires c κs = search needs
@@ -12,5 +12,5 @@ numbers-requires c κs = search needs
 returns : tie.Need-returns
 returns c = rw (c .numbers .ensures, c .before .whole .ensures)
 
-pub bare-spec : {M : Type 1} → statement M
-bare-spec = tie.close (tie.spec whole-requires numbers-requires returns)
+pub fieldless-spec : {M : Type 1} → statement M
+fieldless-spec = tie.close (tie.spec whole-requires numbers-requires returns)

@@ -2,8 +2,8 @@
 use Prim.Native.Nat.{_≤_}
 use borrow.Author.Needs.{needs}
 use Rattle.settings.proofs.Every.{channels-few}
-use Rattle.settings.proofs.model.Model.choice.Statement.{statement}
-use Rattle.settings.proofs.model.Model.choice.Tie as tie
+use Rattle.settings.proofs.model.Model.channel_choice.Statement.{statement}
+use Rattle.settings.proofs.model.Model.channel_choice.Tie as tie
 
 channels-requires : tie.Need-channels-requires
 channels-requires c κs = search needs
@@ -17,5 +17,5 @@ add-t4 c = let h : c .channels .result ≤ 2 = rw (c .channels .ensures) (channe
 returns : tie.Need-returns
 returns c = rw (c .channels .ensures)
 
-pub choice-spec : {M : Type 1} → statement M
-choice-spec = tie.close (tie.spec channels-requires cast-t3 add-t4 returns)
+pub channel-choice-spec : {M : Type 1} → statement M
+channel-choice-spec = tie.close (tie.spec channels-requires cast-t3 add-t4 returns)

@@ -15,9 +15,9 @@ use Rattle.ground.proofs.Members.{each-map, each-both, each-take}
 use Rattle.ground.proofs.Sequences.{map-take}
 use Rattle.text.specs.Spans.{until}
 use Rattle.text.specs.Control.{crLf, lf, cr}
-use Rattle.settings.specs.Cells.{rowOf}
+use Rattle.settings.specs.Rows.{rowOf}
+use Rattle.settings.specs.Table.{cells}
 use Rattle.settings.specs.Mnemonics.{sheet, setting, name}
-use Rattle.settings.specs.Rows.{cells}
 use Rattle.settings.specs.Limits.{within}
 use Rattle.settings.specs.declared.model.Model.{Model}
 use Rattle.settings.specs.declared.mnemonic.Setting.{Setting}

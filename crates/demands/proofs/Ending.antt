@@ -7,7 +7,7 @@ use lib.ListN.{length, take}
 use lib.Dec.{eqb}
 use Rattle.ground.proofs.Cases.{cond-cases}
 use Rattle.text.specs.Control.{etx, enq, lf, cr}
-use Rattle.settings.specs.Cells.{firstNumber}
+use Rattle.settings.specs.Rows.{firstNumber}
 use Rattle.settings.specs.Mnemonics.{same, isErr}
 use Rattle.settings.specs.declared.model.Model.{Model}
 use Rattle.settings.specs.declared.mnemonic.Query.the-variants.{Sps, Pr, Prx, Tid, Ayt, Err}

@@ -18,8 +18,8 @@ use Rattle.numerals.specs.Exponential.{afterPlus, afterSign, powerOf, composed,
 use Rattle.numerals.specs.Writing.{scientific}
 use Rattle.gauges.specs.Readings.{withinLimits, noReading}
 use Rattle.gauges.specs.Shown.{switched}
-use Rattle.settings.specs.Mnemonics.{sheet, known, same, found, recognised, answers, isErr}
 use Rattle.settings.specs.Table.{switchingEntry, storedEntry}
+use Rattle.settings.specs.Mnemonics.{sheet, known, same, found, recognised, answers, isErr}
 use Rattle.settings.specs.Limits.{cellsFit, within}
 use Rattle.settings.specs.declared.model.Model.the-variants.{Tpg361, Tpg362}
 use Rattle.lines.specs.Splitting.{fields}

@@ -19,10 +19,9 @@ use Rattle.numerals.specs.Runs.{lead, rest, headIs, value}
 use Rattle.numerals.specs.Whole.{numberOf, behindPoint, factorOf}
 use Rattle.numerals.specs.Exponential.{afterPlus, afterSign, powerOf, composed, fraction, afterFraction, thresholdOf}
 use Rattle.numerals.specs.Writing.{scientific}
+use Rattle.settings.specs.Rows.{listed, row}
+use Rattle.settings.specs.Table.{switchingEntry, storedEntry, kinds, defaults, fieldCount}
 use Rattle.settings.specs.Mnemonics.{sheet, setting, known, name, same, found, recognised}
-use Rattle.settings.specs.Cells.{listed}
-use Rattle.settings.specs.Table.{switchingEntry, storedEntry, kinds, defaults}
-use Rattle.settings.specs.Rows.{row, fieldCount}
 use Rattle.settings.specs.declared.model.Model.{Model}
 use Rattle.settings.specs.declared.model.Model.the-variants.{Tpg362}
 use Rattle.settings.specs.declared.mnemonic.Setting.{Setting}

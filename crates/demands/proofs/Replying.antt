@@ -8,10 +8,9 @@ use Rattle.ground.specs.Members.{Each}
 use Rattle.ground.proofs.Members.{each-map, each-both}
 use Rattle.ground.proofs.Sequences.{take-set}
 use Rattle.text.specs.Control.{etx}
-use Rattle.settings.specs.Cells.{plain, pairRow, firstNumber, listed}
-use Rattle.settings.specs.Table.{factor, settingEntry, entry}
+use Rattle.settings.specs.Rows.{plain, pairRow, firstNumber, listed, row}
+use Rattle.settings.specs.Table.{factor, settingEntry, entry, fieldCount}
 use Rattle.settings.specs.Mnemonics.{sheet, setting, known, name, isThere}
-use Rattle.settings.specs.Rows.{row, fieldCount}
 use Rattle.settings.specs.declared.mnemonic.Setting.{Setting}
 use Rattle.settings.specs.declared.mnemonic.Setting.the-variants.{Cal}
 use Rattle.settings.specs.declared.mnemonic.Query.{Query}

@@ -13,9 +13,8 @@ use Rattle.ground.proofs.Cases.{in-range}
 use Rattle.ground.proofs.Members.{each-map, each-append, every-each}
 use Rattle.text.specs.Control.{isCharacter, lf, space}
 use Rattle.numbers.specs.declared.threshold.Threshold.{Threshold}
-use Rattle.settings.specs.Table.{switchingEntry, storedEntry, kinds}
+use Rattle.settings.specs.Table.{switchingEntry, storedEntry, kinds, cells}
 use Rattle.settings.specs.Mnemonics.{sheet, setting, known, name, isThere}
-use Rattle.settings.specs.Rows.{cells}
 use Rattle.settings.specs.declared.model.Model.{Model}
 use Rattle.settings.specs.declared.mnemonic.Setting.{Setting}
 use Rattle.settings.specs.declared.mnemonic.Mnemonic.{Mnemonic}

@@ -8,8 +8,8 @@ use lib.ListN.{length, take, drop}
 use Rattle.ground.specs.Members.{Each}
 use Rattle.text.specs.Spans.{until}
 use Rattle.text.specs.Control.{cr, crLf}
-use Rattle.settings.specs.Mnemonics.{sheet, setting, name}
 use Rattle.settings.specs.Rows.{row}
+use Rattle.settings.specs.Mnemonics.{sheet, setting, name}
 use Rattle.settings.specs.declared.mnemonic.Setting.{Setting}
 use Rattle.settings.specs.declared.Settings.{Settings}
 use Rattle.settings.specs.declared.model.Model.{Model}

@@ -8,10 +8,9 @@ use lib.Dec.{leb}
 use lib.ListN.{length, set, take, replicate}
 use Rattle.ground.specs.Members.{every}
 use Rattle.text.specs.Control.{etx, enq, ack, cr, nak, crLf, isCharacter}
-use Rattle.settings.specs.Cells.{listed}
-use Rattle.settings.specs.Table.{kinds}
+use Rattle.settings.specs.Rows.{listed}
+use Rattle.settings.specs.Table.{kinds, fieldCount, cells}
 use Rattle.settings.specs.Mnemonics.{setting, isThere, isErr}
-use Rattle.settings.specs.Rows.{fieldCount, cells}
 use Rattle.settings.specs.declared.mnemonic.Setting.the-variants.{Cal}
 use Rattle.settings.specs.declared.mnemonic.Replying.{Replying}
 use Rattle.settings.specs.declared.mnemonic.Replying.the-variants.{OfSetting, Cf, OfQuery}

@@ -15,7 +15,7 @@ use Rattle.gauges.specs.Readings.{noReading, withinLimits}
 use Rattle.gauges.specs.Shown.{shownOf}
 use Rattle.gauges.specs.declared.reading.Reading.{Reading}
 use Rattle.settings.specs.Models.{startsOn}
-use Rattle.settings.specs.Cells.{firstNumber}
+use Rattle.settings.specs.Rows.{firstNumber}
 use Rattle.settings.specs.Table.{defaults}
 use Rattle.settings.specs.Mnemonics.{setting}
 use Rattle.settings.specs.Limits.{within}

@@ -20,9 +20,8 @@ use Rattle.gauges.specs.declared.reading.Reading.{Reading}
 use Rattle.gauges.specs.declared.shown.Shown.{Shown}
 use Rattle.gauges.proofs.ReadingLimits.{none-within}
 use Rattle.settings.specs.Models.{channels, startsOn, follows, agrees}
-use Rattle.settings.specs.Cells.{firstNumber, switchingOf, mixed}
-use Rattle.settings.specs.Table.{TableRow, kindsOf, defaults}
-use Rattle.settings.specs.Rows.{noSwitching, row, fieldCount, stored}
+use Rattle.settings.specs.Rows.{firstNumber, switchingOf, mixed, noSwitching, row}
+use Rattle.settings.specs.Table.{TableRow, kindsOf, defaults, fieldCount, stored}
 use Rattle.settings.specs.Limits.{within, SettingsShaped}
 use Rattle.settings.specs.declared.model.Model.{Model}
 use Rattle.settings.specs.declared.model.Model.the-variants.{Tpg361, Tpg362}

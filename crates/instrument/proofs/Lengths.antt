@@ -21,9 +21,8 @@ use Rattle.gauges.specs.Shown.{shownOf, shownText}
 use Rattle.gauges.specs.Identification.{kindNames, kindName}
 use Rattle.gauges.specs.declared.shown.Shown.{Shown}
 use Rattle.settings.specs.Models.{channels}
-use Rattle.settings.specs.Table.{settingEntry, kinds}
+use Rattle.settings.specs.Table.{settingEntry, kinds, cells}
 use Rattle.settings.specs.Mnemonics.{setting}
-use Rattle.settings.specs.Rows.{cells}
 use Rattle.settings.specs.declared.model.Model.{Model}
 use Rattle.settings.specs.declared.mnemonic.Setting.{Setting}
 use Rattle.settings.specs.declared.mnemonic.Setting.the-variants.{Cal}

@@ -9,9 +9,8 @@ use Rattle.gauges.specs.Shown.{shownOf, switched}
 use Rattle.gauges.specs.declared.reading.Reading.{Reading}
 use Rattle.gauges.specs.declared.shown.Shown.{Shown}
 use Rattle.settings.specs.Models.{startsOn, follows}
-use Rattle.settings.specs.Cells.{firstNumber}
-use Rattle.settings.specs.Table.{defaults}
-use Rattle.settings.specs.Rows.{noSwitching, stored}
+use Rattle.settings.specs.Rows.{firstNumber, noSwitching}
+use Rattle.settings.specs.Table.{defaults, stored}
 use Rattle.settings.specs.declared.model.Model.{Model}
 use Rattle.settings.specs.declared.mnemonic.Setting.the-variants.{Uni, Cal, Sp, Stored}
 use Rattle.settings.specs.declared.mnemonic.Replying.the-variants.{OfSetting, Cf, OfQuery}

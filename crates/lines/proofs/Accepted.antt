@@ -12,10 +12,9 @@ use Rattle.ground.specs.Members.{every, Each}
 use Rattle.ground.proofs.Cases.{never}
 use Rattle.ground.proofs.Members.{each-map, each-both, every-each, map-each}
 use Rattle.numbers.specs.declared.threshold.Threshold.{Threshold}
-use Rattle.settings.specs.Cells.{listed, rowOf}
-use Rattle.settings.specs.Table.{switchingEntry, storedEntry, settingEntry, kinds}
+use Rattle.settings.specs.Rows.{listed, rowOf, row}
+use Rattle.settings.specs.Table.{switchingEntry, storedEntry, settingEntry, kinds, cells}
 use Rattle.settings.specs.Mnemonics.{settingsHeld, sheet, setting, known, name, same, found, recognised, isThere}
-use Rattle.settings.specs.Rows.{row, cells}
 use Rattle.settings.specs.Limits.{fits, cellsFit, within}
 use Rattle.settings.specs.declared.model.Model.{Model}
 use Rattle.settings.specs.declared.mnemonic.Setting.{Setting}

@@ -8,10 +8,9 @@ use lib.ListN.{take, drop}
 use Rattle.ground.specs.Members.{Each}
 use Rattle.ground.proofs.Members.{each-both, each-take, each-drop, map-each}
 use Rattle.ground.proofs.Ranges.{upto-three}
-use Rattle.settings.specs.Cells.{listed, rowOf}
-use Rattle.settings.specs.Table.{settingEntry}
+use Rattle.settings.specs.Rows.{listed, rowOf, row}
+use Rattle.settings.specs.Table.{settingEntry, fieldCount, cells}
 use Rattle.settings.specs.Mnemonics.{sheet, setting}
-use Rattle.settings.specs.Rows.{row, fieldCount, cells}
 use Rattle.settings.specs.Limits.{within, SettingsShaped}
 use Rattle.settings.specs.declared.model.Model.{Model}
 use Rattle.settings.specs.declared.mnemonic.Setting.{Setting}

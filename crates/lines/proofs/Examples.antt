@@ -13,10 +13,9 @@ use Rattle.numbers.specs.Rounding.{climbWithin, digits, power, rounded, fittedT
 use Rattle.numerals.specs.Runs.{lead, rest, headIs, value}
 use Rattle.numerals.specs.Whole.{numberOf}
 use Rattle.numerals.specs.Exponential.{afterPlus, afterSign, powerOf, composed, fraction, afterFraction, thresholdOf}
-use Rattle.settings.specs.Cells.{listed}
-use Rattle.settings.specs.Table.{switchingEntry, storedEntry, kinds}
+use Rattle.settings.specs.Rows.{listed}
+use Rattle.settings.specs.Table.{switchingEntry, storedEntry, kinds, cells}
 use Rattle.settings.specs.Mnemonics.{sheet, setting, known, name, same, found, recognised}
-use Rattle.settings.specs.Rows.{cells}
 use Rattle.settings.specs.declared.model.Model.{Model}
 use Rattle.settings.specs.declared.model.Model.the-variants.{Tpg361, Tpg362}
 use Rattle.settings.specs.declared.mnemonic.Setting.the-variants.{Cal}

@@ -15,7 +15,7 @@ use Rattle.text.specs.Spans.{until}
 use Rattle.text.proofs.Marks.{until-few}
 use Rattle.numbers.specs.declared.threshold.Threshold.{Threshold}
 use Rattle.numerals.specs.Runs.{part}
-use Rattle.settings.specs.Cells.{plain}
+use Rattle.settings.specs.Rows.{plain}
 use Rattle.settings.specs.Table.{kindsOf, entry, on, kinds}
 use Rattle.settings.specs.Mnemonics.{recognised, isThere}
 use Rattle.settings.specs.declared.model.Model.{Model}

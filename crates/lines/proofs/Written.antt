@@ -7,10 +7,9 @@ use lib.Dec.{ltb}
 use lib.ListN.{length, take}
 use Rattle.text.specs.Page.{puts, Page}
 use Rattle.text.proofs.Pages.{puts-append}
-use Rattle.settings.specs.Cells.{listed}
+use Rattle.settings.specs.Rows.{listed, row}
 use Rattle.settings.specs.Table.{kindsOf, entry, on}
 use Rattle.settings.specs.Mnemonics.{setting}
-use Rattle.settings.specs.Rows.{row}
 use Rattle.settings.specs.declared.model.Model.{Model}
 use Rattle.settings.specs.declared.mnemonic.Setting.{Setting}
 use Rattle.settings.specs.declared.table.Fields.{Fields}

@@ -21,10 +21,9 @@ use Rattle.numerals.specs.declared.exponential.ThresholdNumeral.{ThresholdNumer
 use Rattle.numerals.specs.declared.exponential.ThresholdNumeral.the-variants.{Within, NoThreshold, OutOfRange}
 use Rattle.numerals.proofs.Stops.{read-within}
 use Rattle.settings.specs.Models.{channels}
-use Rattle.settings.specs.Cells.{plain, pairRow, listed, rowOf}
-use Rattle.settings.specs.Table.{entry, kinds}
+use Rattle.settings.specs.Rows.{plain, pairRow, listed, rowOf}
+use Rattle.settings.specs.Table.{entry, kinds, stored}
 use Rattle.settings.specs.Mnemonics.{sheet, setting, known, name, same, found, recognised, isThere}
-use Rattle.settings.specs.Rows.{stored}
 use Rattle.settings.specs.Limits.{inside, fits, cellsFit, within, SettingsShaped}
 use Rattle.settings.specs.declared.model.Model.{Model}
 use Rattle.settings.specs.declared.mnemonic.Mnemonic.{Mnemonic}

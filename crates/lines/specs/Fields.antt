@@ -12,7 +12,7 @@ use Rattle.numerals.specs.declared.whole.Numeral.{Numeral}
 use Rattle.numerals.specs.declared.whole.Numeral.the-variants.{Number, NoNumber}
 use Rattle.numerals.specs.declared.exponential.ThresholdNumeral.{ThresholdNumeral}
 use Rattle.numerals.specs.declared.exponential.ThresholdNumeral.the-variants.{Within, NoThreshold, OutOfRange}
-use Rattle.settings.specs.Cells.{plain}
+use Rattle.settings.specs.Rows.{plain}
 use Rattle.settings.specs.declared.table.Limits.{Limits}
 use Rattle.settings.specs.declared.table.Kind.{Kind}
 use Rattle.settings.specs.declared.table.Kind.the-variants.{OfWhole, OfFactor, OfThreshold}

@@ -7,10 +7,9 @@ use mathlib.Core.Bool.{cond}
 use lib.Dec.{eqb}
 use lib.ListN.{length}
 use Rattle.numbers.specs.declared.threshold.Threshold.{Threshold}
-use Rattle.settings.specs.Cells.{plain, rowOf}
-use Rattle.settings.specs.Table.{entry, kinds}
+use Rattle.settings.specs.Rows.{plain, rowOf}
+use Rattle.settings.specs.Table.{entry, kinds, stored}
 use Rattle.settings.specs.Mnemonics.{recognised, isThere}
-use Rattle.settings.specs.Rows.{stored}
 use Rattle.settings.specs.declared.model.Model.{Model}
 use Rattle.settings.specs.declared.mnemonic.Mnemonic.{Mnemonic}
 use Rattle.settings.specs.declared.mnemonic.Mnemonic.the-variants.{OfReplying, Com, Sav}

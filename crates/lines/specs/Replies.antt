@@ -2,9 +2,8 @@
 use Prim.Native.Nat.{ℕ}
 use mathlib.Core.List.{List, [], _∷_}
 use Rattle.numbers.specs.declared.threshold.Threshold.{Threshold}
-use Rattle.settings.specs.Table.{kinds}
+use Rattle.settings.specs.Table.{kinds, cells}
 use Rattle.settings.specs.Mnemonics.{setting}
-use Rattle.settings.specs.Rows.{cells}
 use Rattle.settings.specs.declared.model.Model.{Model}
 use Rattle.settings.specs.declared.mnemonic.Setting.{Setting}
 use Rattle.settings.specs.declared.mnemonic.Setting.the-variants.{Cal}

@@ -6,7 +6,7 @@ use mathlib.Core.List.{List, [], _∷_}
 use mathlib.Core.Bool.{Bool, cond}
 use lib.ListN.{length, drop}
 use Rattle.numbers.specs.declared.threshold.Threshold.{Threshold}
-use Rattle.settings.specs.Cells.{plain}
+use Rattle.settings.specs.Rows.{plain}
 use Rattle.settings.specs.declared.table.Kind.{Kind}
 use Rattle.lines.specs.Splitting.{word, behind}
 use Rattle.lines.specs.Fields.{read, write}

@@ -10,7 +10,7 @@ use lib.Dec.{leb}
 use lib.IntN.{ℤ, pos, negsuc, natAbs, _-ℤ_}
 use Rattle.ground.proofs.Cases.{in-range}
 use Rattle.numbers.specs.Numbers.{five, OfDigits, fiveDigits, between, isFive, signed, unsigned}
-use Rattle.numbers.specs.Rounding.{isUsable, product, signedAs, scaledBy, Nearest}
+use Rattle.numbers.specs.Rounding.{isUsable, product, scaledBy, Nearest}
 use Rattle.numbers.specs.declared.value.Value.{Value}
 use Rattle.numbers.specs.declared.value.Ratio.{Ratio}
 use Rattle.numbers.proofs.Signed.{abs-minus, abs-neg, between-near}
@@ -42,7 +42,7 @@ module _ (v : Value) (r : Ratio) (h : isFive v && isUsable r ≡ true) where
     pub product-nearest : Nearest p (natAbs (v .mantissa) * r .over) (r .under) (v .exponent -ℤ pos 4) (product p v r)
     product-nearest = rounded-nearest p _ _ product-rounds (v .exponent -ℤ pos 4)
 
-  pub scaled-is : scaledBy v r ≡ signedAs v (product five v r)
+  pub scaled-is : scaledBy v r ≡ record { mantissa = signed (v .mantissa) (product five v r .mantissa); exponent = product five v r .exponent }
   unfolding scaledBy
   scaled-is = rw h
 

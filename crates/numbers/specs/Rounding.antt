@@ -60,13 +60,10 @@ isUsable r = inRange 1 1000000000000 (r .over) && inRange 1 1000000000000 (r .un
 abbrev pub product : ℕ → Value → Ratio → Threshold
 product p v r = rounded p (natAbs (v .mantissa) * r .over) (r .under) (v .exponent -ℤ pos 4)
 
--- a threshold with the sign of v
-abbrev pub signedAs : Value → Threshold → Value
-signedAs v t = record { mantissa = signed (v .mantissa) (t .mantissa); exponent = t .exponent }
-
 -- v times r with its sign kept; zero, and what is no number or no ratio, stays as it is
 unfoldable pub scaledBy : Value → Ratio → Value
-scaledBy v r = cond (isFive v && isUsable r) (signedAs v (product five v r)) v
+scaledBy v r =
+    cond (isFive v && isUsable r) (record { mantissa = signed (v .mantissa) (product five v r .mantissa); exponent = product five v r .exponent }) v
 
 -- t's mantissa times ten to its exponent, over the denominator that t and u have in common
 abbrev pub levelled : Threshold → Threshold → ℕ

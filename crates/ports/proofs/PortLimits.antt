@@ -16,10 +16,10 @@ use Rattle.ground.specs.Ranges.{inRange}
 use Rattle.ground.proofs.Members.{every-snoc}
 use Rattle.ground.proofs.Cases.{never, cond-cases, in-range}
 use Rattle.text.specs.Control.{isCharacter, etx, enq, lf, cr}
+use Rattle.settings.specs.Rows.{pairRow, firstNumber}
 use Rattle.settings.specs.Table.{entry, whole}
 use Rattle.settings.specs.Mnemonics.{isErr, answers}
 use Rattle.settings.specs.Limits.{sameNumber, fits}
-use Rattle.settings.specs.Cells.{pairRow, firstNumber}
 use Rattle.settings.specs.declared.model.Model.{Model}
 use Rattle.settings.specs.declared.mnemonic.Query.the-variants.{Err}
 use Rattle.settings.specs.declared.mnemonic.Replying.{Replying}

@@ -42,42 +42,15 @@ kindOf b =
 
 -- "no line, selection, error or reading, mode 1 streaming"; an LF "after a fresh box or a power cycle, is another LF"
 abbrev pub freshPort : Model → Port
-freshPort model = record {
-  line = blank;
-  len = 0;
-  bad = false;
-  ended = false;
-  selection = Nothing;
-  error = noError;
-  interval = intervalOf (powerOnMode model);
-  ticks = 0;
-}
+freshPort model = record { line = blank; len = 0; bad = false; ended = false; selection = Nothing; error = noError; interval = intervalOf (powerOnMode model); ticks = 0 }
 
 -- the port with another mark of "straight after a CR"
 abbrev pub withMark : Port → Bool → Port
-withMark p ended = record {
-  line = p .line;
-  len = p .len;
-  bad = p .bad;
-  ended = ended;
-  selection = p .selection;
-  error = p .error;
-  interval = p .interval;
-  ticks = p .ticks;
-}
+withMark p ended = record { line = p .line; len = p .len; bad = p .bad; ended = ended; selection = p .selection; error = p .error; interval = p .interval; ticks = p .ticks }
 
 -- the port with another selection and error word
 abbrev pub withChoice : Port → Selection → Word → Port
-withChoice p selection error = record {
-  line = p .line;
-  len = p .len;
-  bad = p .bad;
-  ended = p .ended;
-  selection = selection;
-  error = error;
-  interval = p .interval;
-  ticks = p .ticks;
-}
+withChoice p selection error = record { line = p .line; len = p .len; bad = p .bad; ended = p .ended; selection = selection; error = error; interval = p .interval; ticks = p .ticks }
 
 -- "selects its mnemonic; after COM and SAV the selection is none"
 abbrev pub selected : Mnemonic → Selection

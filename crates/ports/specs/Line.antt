@@ -12,16 +12,7 @@ blank = replicate 80 0
 
 -- the port with another line
 abbrev pub withLine : Port → List ℕ → ℕ → Bool → Port
-withLine p line len bad = record {
-  line = line;
-  len = len;
-  bad = bad;
-  ended = p .ended;
-  selection = p .selection;
-  error = p .error;
-  interval = p .interval;
-  ticks = p .ticks;
-}
+withLine p line len bad = record { line = line; len = len; bad = bad; ended = p .ended; selection = p .selection; error = p .error; interval = p .interval; ticks = p .ticks }
 
 -- "ETX empties the line, a bad one too"
 abbrev pub emptied : Port → Port

@@ -4,7 +4,7 @@ use mathlib.Core.List.{[], _∷_}
 use mathlib.Core.Bool.{true, false, cond}
 use lib.ListN.{getD}
 use lib.Dec.{eqb, ltb}
-use Rattle.settings.specs.Cells.{firstNumber}
+use Rattle.settings.specs.Rows.{firstNumber}
 use Rattle.settings.specs.declared.mnemonic.Mnemonic.{Mnemonic}
 use Rattle.settings.specs.declared.mnemonic.Mnemonic.the-variants.{OfReplying, Com, Sav}
 use Rattle.settings.specs.declared.rows.Row.{Row}
@@ -17,16 +17,7 @@ intervalOf mode = getD (1 ∷ 10 ∷ 600 ∷ []) mode 0
 
 -- the port with another stream
 abbrev pub withStream : Port → ℕ → ℕ → Port
-withStream p interval ticks = record {
-  line = p .line;
-  len = p .len;
-  bad = p .bad;
-  ended = p .ended;
-  selection = p .selection;
-  error = p .error;
-  interval = interval;
-  ticks = ticks;
-}
+withStream p interval ticks = record { line = p .line; len = p .len; bad = p .bad; ended = p .ended; selection = p .selection; error = p .error; interval = interval; ticks = ticks }
 
 -- "Every host byte stops the stream"
 abbrev pub stopped : Port → Port

@@ -11,10 +11,9 @@ use Rattle.ground.proofs.Tables.{entries}
 use Rattle.text.specs.Text.{ascii}
 use Rattle.numbers.specs.declared.threshold.Threshold.{Threshold}
 use Rattle.settings.specs.Models.{modelOf, channels, names, powerOnMode, startsOn, follows, agrees}
+use Rattle.settings.specs.Rows.{pairRow, firstNumber, listed, row, withStored}
 use Rattle.settings.specs.Table.{switchingEntry, storedEntry, defaults}
 use Rattle.settings.specs.Mnemonics.{settingsHeld, sheet, sheetAt, setting, known, name, same, found, recognised, channelOf, isErr}
-use Rattle.settings.specs.Cells.{pairRow, firstNumber, listed}
-use Rattle.settings.specs.Rows.{row, withStored}
 use Rattle.settings.specs.Limits.{cellsFit, within}
 use Rattle.settings.specs.declared.model.Model.{Model}
 use Rattle.settings.specs.declared.model.Model.the-variants.{Tpg361, Tpg362}

@@ -13,7 +13,7 @@ use lib.Signed.{leZ}
 use Rattle.ground.proofs.Ranges.{upto-each}
 use Rattle.ground.proofs.Cases.{below, never, eqb-same}
 use Rattle.numbers.specs.declared.threshold.Threshold.{Threshold}
-use Rattle.settings.specs.Cells.{plain, listed}
+use Rattle.settings.specs.Rows.{plain, listed}
 use Rattle.settings.specs.Limits.{sameNumber, sameCell, fits, cellsFit, rowFits}
 use Rattle.settings.specs.declared.table.Kind.{Kind}
 use Rattle.settings.specs.declared.table.Kind.the-variants.{OfWhole, OfFactor, OfThreshold}

@@ -15,10 +15,9 @@ use Rattle.ground.proofs.Cases.{cond-cases}
 use Rattle.ground.proofs.Tables.{alike}
 use Rattle.ground.proofs.Members.{each-map, each-both, each-all, each-take, each-drop, each-at, every-each, each-every, each-those, those-each, each-taken}
 use Rattle.numbers.specs.declared.threshold.Threshold.{Threshold}
-use Rattle.settings.specs.Cells.{plain, listed}
-use Rattle.settings.specs.Table.{kindsOf, settingEntry}
+use Rattle.settings.specs.Rows.{plain, listed, row}
+use Rattle.settings.specs.Table.{kindsOf, settingEntry, fieldCount, cells}
 use Rattle.settings.specs.Mnemonics.{settingsHeld, takes, sheet, others, setting, known}
-use Rattle.settings.specs.Rows.{row, fieldCount, cells}
 use Rattle.settings.specs.Limits.{sameCell, fits, rowWithin, within, SettingsShaped}
 use Rattle.settings.specs.declared.model.Model.{Model}
 use Rattle.settings.specs.declared.mnemonic.Setting.{Setting}

@@ -13,10 +13,9 @@ use lib.Dec.{ltb, eqb}
 use Rattle.ground.specs.Members.{every}
 use Rattle.numbers.specs.declared.threshold.Threshold.{Threshold}
 use Rattle.settings.specs.Models.{channels}
-use Rattle.settings.specs.Cells.{plain, pairRow, firstNumber, secondNumber, listed, mixed}
-use Rattle.settings.specs.Table.{channelChoice, factor, TableRow, switchings, switchingEntry, storedEntry, settingEntry, entry, defaults}
+use Rattle.settings.specs.Rows.{plain, pairRow, firstNumber, secondNumber, listed, mixed, row}
+use Rattle.settings.specs.Table.{channelChoice, factor, TableRow, switchings, switchingEntry, storedEntry, settingEntry, entry, defaults, stored}
 use Rattle.settings.specs.Mnemonics.{setting}
-use Rattle.settings.specs.Rows.{row, stored}
 use Rattle.settings.specs.Limits.{sameCell, fits, cellsFit, rowFits, rowWithin, within, SettingsShaped}
 use Rattle.settings.specs.declared.model.Model.{Model}
 use Rattle.settings.specs.declared.mnemonic.Setting.{Setting}

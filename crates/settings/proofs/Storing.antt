@@ -11,8 +11,8 @@ use lib.Dec.{ltb}
 use lib.Seq.{getD-set-same, getD-set-other, ext-getD}
 use Rattle.ground.proofs.Ranges.{upto-three}
 use Rattle.numbers.specs.declared.threshold.Threshold.{Threshold}
-use Rattle.settings.specs.Cells.{plain, pairRow, cellsOf, firstNumber, secondNumber, pairOf, switchingOf, listed, mixed}
-use Rattle.settings.specs.Rows.{noSwitching, noPair, rowOfPair, row, fieldCount, withRow, withFactors, stored}
+use Rattle.settings.specs.Rows.{plain, pairRow, cellsOf, firstNumber, secondNumber, pairOf, switchingOf, listed, mixed, noSwitching, noPair, rowOfPair, row, withRow, withFactors}
+use Rattle.settings.specs.Table.{fieldCount, stored}
 use Rattle.settings.specs.Mnemonics.{setting}
 use Rattle.settings.specs.Limits.{SettingsShaped}
 use Rattle.settings.specs.declared.model.Model.{Model}

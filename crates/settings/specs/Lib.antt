@@ -1,6 +1,5 @@
 pub mod Models
-pub mod Cells
+pub mod Rows
 pub mod Table
 pub mod Mnemonics
-pub mod Rows
 pub mod Limits

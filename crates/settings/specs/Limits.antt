@@ -10,10 +10,9 @@ use Rattle.ground.specs.Members.{every}
 use Rattle.ground.specs.Ranges.{inRange}
 use Rattle.numbers.specs.Numbers.{withinStops}
 use Rattle.numbers.specs.declared.threshold.Threshold.{Threshold}
-use Rattle.settings.specs.Cells.{listed}
+use Rattle.settings.specs.Rows.{listed, row}
 use Rattle.settings.specs.Table.{kindsOf, settingEntry}
 use Rattle.settings.specs.Mnemonics.{settingsHeld}
-use Rattle.settings.specs.Rows.{row}
 use Rattle.settings.specs.declared.model.Model.{Model}
 use Rattle.settings.specs.declared.mnemonic.Setting.{Setting}
 use Rattle.settings.specs.declared.table.Limits.{Limits}

@@ -1,21 +1,51 @@
--- The settings by their rows, and storing (01, "Settings").
+-- The settings by their rows of three cells, the same three for every model (01, "Settings").
 use Prim.Native.Nat.{ℕ}
-use mathlib.Core.List.{List, [], _∷_}
-use lib.ListN.{length, getD, set, take}
+use mathlib.Core.List.{List, [], _∷_, _++_}
+use lib.ListN.{getD, set, take, drop}
+use lib.IntN.{pos}
 use Rattle.numbers.specs.declared.threshold.Threshold.{Threshold}
-use Rattle.settings.specs.Cells.{plain, pairRow, cellsOf, firstNumber, secondNumber, pairOf, switchingOf, listed, mixed}
-use Rattle.settings.specs.Table.{kinds}
-use Rattle.settings.specs.Mnemonics.{setting}
-use Rattle.settings.specs.declared.model.Model.{Model}
 use Rattle.settings.specs.declared.mnemonic.Setting.{Setting}
 use Rattle.settings.specs.declared.mnemonic.Setting.the-variants.{Uni, Cal, Sp, Stored}
-use Rattle.settings.specs.declared.mnemonic.Replying.the-variants.{OfSetting, Cf, OfQuery}
-use Rattle.settings.specs.declared.mnemonic.Mnemonic.{Mnemonic}
-use Rattle.settings.specs.declared.mnemonic.Mnemonic.the-variants.{OfReplying, Com, Sav}
 use Rattle.settings.specs.declared.Switching.{Switching}
 use Rattle.settings.specs.declared.Pair.{Pair}
 use Rattle.settings.specs.declared.Settings.{Settings}
 use Rattle.settings.specs.declared.rows.Row.{Row}
+
+-- a whole number, or a factor in thousandths, as a cell
+abbrev pub plain : ℕ → Threshold
+plain n = record { mantissa = n; exponent = pos 0 }
+
+-- up to two numbers
+abbrev pub pairRow : ℕ → ℕ → Row
+pairRow a b = record { first = plain a; second = plain b; third = plain 0 }
+
+-- "assignment .., lower, upper"
+abbrev pub cellsOf : Switching → Row
+cellsOf w = record { first = plain (w .assignment); second = w .lower; third = w .upper }
+
+-- the numbers in the first two cells, and a switching function from its cells
+abbrev pub firstNumber : Row → ℕ
+firstNumber r = r .first .mantissa
+
+abbrev pub secondNumber : Row → ℕ
+secondNumber r = r .second .mantissa
+
+abbrev pub pairOf : Row → Pair
+pairOf r = record { first = firstNumber r; second = secondNumber r }
+
+abbrev pub switchingOf : Row → Switching
+switchingOf r = record { assignment = firstNumber r; lower = r .second; upper = r .third }
+
+-- a row as a list, and up to three cells as a row
+abbrev pub listed : Row → List Threshold
+listed r = r .first ∷ r .second ∷ r .third ∷ []
+
+abbrev pub rowOf : List Threshold → Row
+rowOf cs = record { first = getD cs 0 (plain 0); second = getD cs 1 (plain 0); third = getD cs 2 (plain 0) }
+
+-- the first n cells of r, and the others of q
+abbrev pub mixed : ℕ → Row → Row → Row
+mixed n r q = rowOf (take n (listed r) ++ drop n (listed q))
 
 -- a switching function, and a pair, that is not there
 abbrev pub noSwitching : Switching
@@ -35,18 +65,7 @@ row s Cal = pairRow (getD (s .factors) 0 0) (getD (s .factors) 1 0)
 row s (Sp k) = cellsOf (getD (s .switching) k noSwitching)
 row s (Stored k) = rowOfPair (getD (s .stored) k noPair)
 
--- "per channel": a model has as many cells of a setting as it takes fields
-abbrev pub fieldCount : Model → Setting → ℕ
-fieldCount model x = length (kinds model (setting x))
-
--- and those are they
-abbrev pub cells : Model → Settings → Setting → List Threshold
-cells model s x = take (fieldCount model x) (listed (row s x))
-
 -- the settings with one part replaced
-abbrev pub withUnit : Settings → ℕ → Settings
-withUnit s v = record { unit = v; factors = s .factors; switching = s .switching; stored = s .stored }
-
 abbrev pub withFactors : Settings → List ℕ → Settings
 withFactors s v = record { unit = s .unit; factors = v; switching = s .switching; stored = s .stored }
 
@@ -58,15 +77,7 @@ withStored s v = record { unit = s .unit; factors = s .factors; switching = s .s
 
 -- the settings with other cells for a setting
 abbrev pub withRow : Settings → Setting → Row → Settings
-withRow s Uni r = withUnit s (firstNumber r)
+withRow s Uni r = record { unit = firstNumber r; factors = s .factors; switching = s .switching; stored = s .stored }
 withRow s Cal r = withFactors s (firstNumber r ∷ secondNumber r ∷ [])
 withRow s (Sp k) r = withSwitching s (set (s .switching) k (switchingOf r))
 withRow s (Stored k) r = withStored s (set (s .stored) k (pairOf r))
-
--- the settings after an accepted line: as many cells of its setting as it has fields; CFx: "it writes CAL's own cell"
-abbrev pub stored : Model → Settings → Mnemonic → Row → Settings
-stored model s (OfReplying (OfSetting x)) r = withRow s x (mixed (fieldCount model x) r (row s x))
-stored model s (OfReplying (Cf k)) r = withFactors s (set (s .factors) k (firstNumber r))
-stored model s (OfReplying (OfQuery q)) r = s
-stored model s Com r = s
-stored model s Sav r = s

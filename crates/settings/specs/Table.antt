@@ -1,13 +1,14 @@
--- The table of 01, "Settings", row for row, and the mnemonics beside it: the name of each, its fields and its default.
+-- The table of 01, "Settings", row for row, and the mnemonics beside it: the name of each, its fields and its default; and storing.
 use Prim.Native.Nat.{ℕ, _+_}
 use mathlib.Core.List.{List, [], _∷_, _++_, map}
 use mathlib.Core.Bool.{cond}
-use lib.ListN.{getD, take, replicate}
+use lib.ListN.{length, getD, set, take, replicate}
 use lib.Dec.{ltb}
 use lib.IntN.{negsuc}
 use Rattle.text.specs.Text.{ascii}
+use Rattle.numbers.specs.declared.threshold.Threshold.{Threshold}
 use Rattle.settings.specs.Models.{channels}
-use Rattle.settings.specs.Cells.{pairRow, cellsOf, firstNumber, secondNumber, pairOf}
+use Rattle.settings.specs.Rows.{pairRow, cellsOf, firstNumber, secondNumber, pairOf, listed, mixed, row, withFactors, withRow}
 use Rattle.settings.specs.declared.Switching.{Switching}
 use Rattle.settings.specs.declared.Settings.{Settings}
 use Rattle.settings.specs.declared.model.Model.{Model}
@@ -83,11 +84,7 @@ numbered s k = s ++ (getD (ascii "1234") k 0 ∷ [])
 
 -- "0, 1.0000E-09, 9.0000E-07 (ours)"
 abbrev pub unassigned : Switching
-unassigned = record {
-  assignment = 0;
-  lower = record { mantissa = 10000; exponent = negsuc 8 };
-  upper = record { mantissa = 90000; exponent = negsuc 6 };
-}
+unassigned = record { assignment = 0; lower = record { mantissa = 10000; exponent = negsuc 8 }; upper = record { mantissa = 90000; exponent = negsuc 6 } }
 
 -- "SP1..SP4 | assignment 0 to 3, lower, upper"
 abbrev pub switchings : ℕ → TableRow
@@ -159,3 +156,21 @@ defaults model = record {
   switching = replicate 4 unassigned;
   stored = map (λ (e : TableRow). pairOf (e .default model)) storedTable;
 }
+
+-- ---- storing
+
+-- "per channel": a model has as many cells of a setting as it takes fields
+abbrev pub fieldCount : Model → Setting → ℕ
+fieldCount model x = length (kindsOf (settingEntry x .fields model))
+
+-- and those are they
+abbrev pub cells : Model → Settings → Setting → List Threshold
+cells model s x = take (fieldCount model x) (listed (row s x))
+
+-- the settings after an accepted line: as many cells of its setting as it has fields; CFx: "it writes CAL's own cell"
+abbrev pub stored : Model → Settings → Mnemonic → Row → Settings
+stored model s (OfReplying (OfSetting x)) r = withRow s x (mixed (fieldCount model x) r (row s x))
+stored model s (OfReplying (Cf k)) r = withFactors s (set (s .factors) k (firstNumber r))
+stored model s (OfReplying (OfQuery q)) r = s
+stored model s Com r = s
+stored model s Sav r = s

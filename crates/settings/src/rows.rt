@@ -2,8 +2,8 @@
 ghost use mathlib.Core.Path.{_≡_};
 ghost use mathlib.Core.Bool.{cond};
 ghost use lib.ListN.{getD, set};
-ghost use Rattle.settings.specs.Cells.{plain, pairRow, cellsOf, firstNumber, mixed};
-ghost use Rattle.settings.specs.Rows.{noSwitching, noPair, rowOfPair, row, withFactors, withRow, stored};
+ghost use Rattle.settings.specs.Rows.{plain, pairRow, cellsOf, firstNumber, mixed, noSwitching, noPair, rowOfPair, row, withFactors, withRow};
+ghost use Rattle.settings.specs.Table.{stored};
 use crate::Pair;
 use crate::Settings;
 use crate::Switching;

@@ -1,8 +1,8 @@
 // The table of settings, row for row, and the mnemonics beside it: the name of each, its fields and its default.
 ghost use mathlib.Core.Path.{_≡_};
 ghost use mathlib.Core.List.{[], _∷_};
+ghost use Rattle.settings.specs.Rows.{pairOf};
 ghost use Rattle.settings.specs.Table.{whole, channelChoice, factor, numbers, single, perChannel, fieldless, nothing, numbered, switchingEntry, storedEntry, settingEntry, replyingEntry, entry, on, defaults};
-ghost use Rattle.settings.specs.Cells.{pairOf};
 ghost use Rattle.settings.specs.declared.mnemonic.Replying.the-variants.{OfQuery};
 use crate::Pair;
 use crate::Settings;

@@ -2,10 +2,9 @@
 use mathlib.Core.Path.{sym, ap}
 use Prim.Native.Nat.{ℕ}
 use borrow.Author.Needs.{needs}
-use Rattle.settings.specs.Cells.{mixed}
+use Rattle.settings.specs.Rows.{mixed, row, withRow}
 use Rattle.settings.specs.Table.{settingEntry}
 use Rattle.settings.specs.Mnemonics.{setting}
-use Rattle.settings.specs.Rows.{row, withRow}
 use Rattle.settings.proofs.Tabled.{few, count-kinds}
 use Rattle.settings.proofs.Settings.store.Statement.{statement}
 use Rattle.settings.proofs.Settings.store.Tie as tie

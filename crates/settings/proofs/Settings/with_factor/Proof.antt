@@ -4,8 +4,7 @@ use lib.ListN.{length}
 use lib.Seq.{set-out}
 use native.Mathlib.Omega.{arith}
 use borrow.Author.Needs.{needs}
-use Rattle.settings.specs.Rows.{withFactors}
-use Rattle.settings.specs.Cells.{firstNumber}
+use Rattle.settings.specs.Rows.{withFactors, firstNumber}
 use Rattle.settings.proofs.Settings.with_factor.Statement.{statement}
 use Rattle.settings.proofs.Settings.with_factor.Tie as tie
 

@@ -6,8 +6,7 @@ use lib.ListN.{length, length-map}
 use lib.Seq.{set-out}
 use native.Mathlib.Omega.{arith}
 use borrow.Author.Needs.{needs}
-use Rattle.settings.specs.Cells.{pairOf, switchingOf}
-use Rattle.settings.specs.Rows.{withStored, withSwitching}
+use Rattle.settings.specs.Rows.{pairOf, switchingOf, withStored, withSwitching}
 use Rattle.settings.proofs.Settings.with_row.Statement.{statement}
 use Rattle.settings.proofs.Settings.with_row.Tie as tie
 

@@ -3,8 +3,7 @@ use mathlib.Core.Path.{_≡_, sym, ap, _∙_}
 use lib.ListN.{length, List·getD-eq-default}
 use native.Mathlib.Omega.{arith}
 use borrow.Author.Needs.{needs}
-use Rattle.settings.specs.Cells.{cellsOf}
-use Rattle.settings.specs.Rows.{noSwitching}
+use Rattle.settings.specs.Rows.{cellsOf, noSwitching}
 use Rattle.settings.proofs.rows.switch_row.Statement.{statement}
 use Rattle.settings.proofs.rows.switch_row.Tie as tie
 

@@ -6,7 +6,7 @@ use mathlib.Core.List.{List, [], _∷_, _++_, map, flatMap, append-nil}
 use mathlib.Core.Bool.{Bool, true, false, not}
 use mathlib.Core.Logic.{_≢_}
 use native.Mathlib.Omega.{arith}
-use borrow.Author.Tests.{not-true, eq-eqb}
+use borrow.Author.Tests.{not-true}
 use lib.ListN.{getD, take, drop}
 use Rattle.ground.specs.Members.{every, Each}
 use Rattle.ground.proofs.Cases.{never}
@@ -41,6 +41,7 @@ use Rattle.lines.specs.Replies.{texts, settingText}
 use Rattle.lines.specs.declared.word.Word.{Word}
 use Rattle.lines.specs.declared.verdict.Verdict.{Verdict}
 use Rattle.lines.specs.declared.verdict.Verdict.the-variants.{Asks, Writes, Refused}
+use Rattle.lines.proofs.Accepted.{same-self}
 use Rattle.ports.specs.Line.{grown}
 use Rattle.ports.specs.Hearing.{kindOf, concluded, asked, byKind, heard}
 use Rattle.instrument.specs.Events.{written}
@@ -92,12 +93,6 @@ moved model x = not (same (settingText model (boxSettings (changed model x)) x) 
 all-moved : (model : Model) → every (moved model) (sheet model) ≡ true
 unfolding moved changed others bare climbWithin digits power rounded fittedTo lead rest headIs value numberOf behindPoint factorOf afterPlus afterSign powerOf composed fraction afterFraction thresholdOf scientific every known sheet same found recognised switchingEntry storedEntry fields limited fieldsRead formed valued withFields judged settingText grown kindOf concluded asked byKind heard written eventText next sent after
 all-moved = tested (λ model. every (moved model) (sheet model)) refl
-
--- equal bytes are found the same
-same-self : (t : List ℕ) → same t t ≡ true
-unfolding same
-same-self [] = refl
-same-self (b ∷ t) = rw (eq-eqb b b refl) (same-self t)
 
 changed-sound : (model : Model) (x : Setting) → Sound (changed model x)
 unfolding changed

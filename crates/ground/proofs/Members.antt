@@ -70,6 +70,29 @@ module _ {A : Type 0} where
       by true q e f = ((λ _. e .0), f (e .1))
       by false q e f = ((λ t. never (cc)), f e)
 
+-- every two members, the earlier one first
+abbrev pub Pairwise : {A : Type 0} → (A → A → Type 0) → List A → Type 0
+Pairwise R [] = Unit {0}
+Pairwise R (x ∷ xs) = Each (R x) xs × Pairwise R xs
+
+unfoldable pub pairwise : {A : Type 0} → (A → A → Bool) → List A → Bool
+pairwise p [] = true
+pairwise p (x ∷ xs) = every (p x) xs && pairwise p xs
+
+module _ {A : Type 0} (R : A → A → Type 0) where
+  pub pairwise-by : (p : A → A → Bool) → ((x y : A) → p x y ≡ true → R x y) → (xs : List A) → pairwise p xs ≡ true → Pairwise R xs
+  unfolding pairwise
+  pairwise-by p f [] e = tt
+  pairwise-by p f (x ∷ xs) e =
+      let b = and-eq-true-iff (every (p x) xs) (pairwise p xs) .0 e in
+      (each-map (λ y. p x y ≡ true) (R x) (f x) xs (every-each (p x) xs (b .0)), pairwise-by p f xs (b .1))
+
+  pub pairwise-those : (p : A → Bool) (xs : List A) → Pairwise R xs → Pairwise R (those p xs)
+  pairwise-those p [] d = tt
+  pairwise-those p (x ∷ xs) d =
+      cond-cases (Pairwise R) (p x) (x ∷ those p xs) (those p xs)
+      (λ _. (each-those (R x) p xs (d .0), pairwise-those p xs (d .1))) (λ _. pairwise-those p xs (d .1))
+
 pub map-each : {A B : Type 0} (f g : A → B) (xs : List A) → map f xs ≡ map g xs → Each (λ x. f x ≡ g x) xs
 map-each f g [] e = tt
 map-each f g (x ∷ xs) e = (cc, map-each f g xs (cc))

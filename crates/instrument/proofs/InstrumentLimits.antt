@@ -24,7 +24,6 @@ use Rattle.settings.specs.Rows.{firstNumber, switchingOf, mixed, noSwitching, r
 use Rattle.settings.specs.Table.{TableRow, kindsOf, defaults, fieldCount, stored}
 use Rattle.settings.specs.Limits.{within, SettingsShaped}
 use Rattle.settings.specs.declared.model.Model.{Model}
-use Rattle.settings.specs.declared.model.Model.the-variants.{Tpg361, Tpg362}
 use Rattle.settings.specs.declared.mnemonic.Setting.the-variants.{Uni, Cal, Sp, Stored}
 use Rattle.settings.specs.declared.mnemonic.Replying.the-variants.{OfSetting, Cf, OfQuery}
 use Rattle.settings.specs.declared.mnemonic.Mnemonic.{Mnemonic}
@@ -32,6 +31,7 @@ use Rattle.settings.specs.declared.mnemonic.Mnemonic.the-variants.{OfReplying, 
 use Rattle.settings.specs.declared.rows.Row.{Row}
 use Rattle.settings.specs.declared.Switching.{Switching}
 use Rattle.settings.specs.declared.Settings.{Settings}
+use Rattle.settings.proofs.Every.{channels-few}
 use Rattle.settings.proofs.Tabled.{switching-there}
 use Rattle.settings.proofs.StoredLimits.{defaults-within, defaults-shaped}
 use Rattle.lines.specs.Judging.{judged, effect}
@@ -110,10 +110,6 @@ module _ (model : Model) (serial : ℕ) (saved : Settings) where
 
 -- ---- a reading
 
-channels-two : (model : Model) → channels model ≤ 2
-channels-two Tpg361 = omega arith
-channels-two Tpg362 = omega arith
-
 module _ (s : Instrument) (channel : ℕ) (r : Reading) (t : InstrumentShaped s) where
   pub measured-shaped : InstrumentShaped (measured s channel r)
   unfolding measured
@@ -144,7 +140,7 @@ module _ (s : Instrument) (channel : ℕ) (r : Reading) (t : InstrumentShaped s)
     where
       own : readingWithin (s .model) channel (getD (set (s .readings) channel r) channel noReading) ≡ true
       own =
-          rw (getD-set-same (s .readings) channel r noReading (omega (arith, channels-two (s .model), t .readings)), l, lt-ltb channel (channels (s .model)) c)
+          rw (getD-set-same (s .readings) channel r noReading (omega (arith, channels-few (s .model), t .readings)), l, lt-ltb channel (channels (s .model)) c)
 
       read : (k : ℕ) → reading s k ≡ true → readingWithin (s .model) k (getD (set (s .readings) channel r) k noReading) ≡ true
       read k h =

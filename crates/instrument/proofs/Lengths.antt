@@ -5,7 +5,7 @@ use mathlib.Core.List.{List, [], _∷_, _++_, map}
 use mathlib.Core.Bool.{true, _&&_}
 use native.Mathlib.Omega.{arith}
 use native.Mathlib.Nat.{mul-le-mul-right, suc-mul}
-use borrow.Author.Tests.{leb-true}
+use borrow.Author.Tests.{leb-true, eqb-true}
 use lib.Dec.{leb, eqb}
 use lib.IntN.{ℤ}
 use lib.ListN.{length, take, length-append, length-map, length-take}
@@ -33,7 +33,7 @@ use Rattle.settings.specs.declared.mnemonic.Replying.the-variants.{OfSetting, C
 use Rattle.settings.specs.declared.table.Kind.{Kind}
 use Rattle.settings.specs.declared.table.Kind.the-variants.{OfWhole, OfFactor, OfThreshold}
 use Rattle.settings.specs.declared.Settings.{Settings}
-use Rattle.settings.proofs.Every.{every-model}
+use Rattle.settings.proofs.Every.{tested}
 use Rattle.settings.proofs.Tabled.{few-kinds}
 use Rattle.lines.specs.Splitting.{joined}
 use Rattle.lines.specs.Fields.{write}
@@ -118,7 +118,8 @@ kind-short k =
     (each-at (λ n. leb (length n) 7 ≡ true) kindNames [] refl (every-each (λ n. leb (length n) 7) kindNames refl) k)
 
 serial-length : (model : Model) (serial : ℕ) → length (serialText model serial) ≡ 38
-serial-length model serial = every-model (λ m. length (serialText m serial) ≡ 38) (refl, (refl, tt)) model
+unfolding every
+serial-length model serial = eqb-true (length (serialText model serial)) 38 (tested (λ m. eqb (length (serialText m serial)) 38) refl model)
 
 ended : (t : List ℕ) → length t ≤ 62 → length (t ++ crLf) ≤ 64
 ended t h = omega (arith, length-append t crLf)

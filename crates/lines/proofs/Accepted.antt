@@ -8,22 +8,21 @@ use native.Mathlib.Omega.{arith}
 use borrow.Author.Tests.{ltb-true, eq-eqb, not-true}
 use lib.ListN.{length, take}
 use lib.Dec.{eqb}
-use Rattle.ground.specs.Members.{every, Each}
-use Rattle.ground.proofs.Cases.{never}
-use Rattle.ground.proofs.Members.{each-map, each-both, every-each, map-each}
+use Rattle.ground.specs.Members.{every, Each, those}
+use Rattle.ground.proofs.Cases.{never, cond-cases}
+use Rattle.ground.proofs.Members.{each-map, each-both, every-each, Pairwise, pairwise, pairwise-by}
 use Rattle.numbers.specs.declared.threshold.Threshold.{Threshold}
 use Rattle.settings.specs.Rows.{listed, rowOf, row}
 use Rattle.settings.specs.Table.{switchingEntry, storedEntry, settingEntry, kinds, cells}
-use Rattle.settings.specs.Mnemonics.{settingsHeld, sheet, setting, known, name, same, found, recognised, isThere}
+use Rattle.settings.specs.Mnemonics.{settingsHeld, takes, sheet, others, setting, known, name, same, found, recognised, isThere}
 use Rattle.settings.specs.Limits.{fits, cellsFit, within}
 use Rattle.settings.specs.declared.model.Model.{Model}
 use Rattle.settings.specs.declared.mnemonic.Setting.{Setting}
 use Rattle.settings.specs.declared.mnemonic.Mnemonic.{Mnemonic}
-use Rattle.settings.specs.declared.mnemonic.Named.{Named}
 use Rattle.settings.specs.declared.mnemonic.Named.the-variants.{Known}
 use Rattle.settings.specs.declared.table.Kind.{Kind}
 use Rattle.settings.specs.declared.Settings.{Settings}
-use Rattle.settings.proofs.Every.{models, every-model, tested}
+use Rattle.settings.proofs.Every.{tested}
 use Rattle.settings.proofs.Tabled.{few, few-kinds, count-kinds}
 use Rattle.settings.proofs.Sheets.{held-each, OnSheet, sheet-holds, on-sheet, within-rows, sheet-each}
 use Rattle.settings.proofs.Answerable.{first-there}
@@ -127,12 +126,44 @@ module _ (model : Model) (m : Mnemonic) (sp : Spelt model m) where
 
 -- ---- by computing over the tables
 
+-- two names that differ
+abbrev Apart : Mnemonic → Mnemonic → Type 0
+Apart m n = not (same (name m) (name n)) ≡ true
+
+-- no two are alike, over one list whatever the model
+whole-apart : Pairwise Apart (map setting settingsHeld ++ others)
+unfolding pairwise every same switchingEntry storedEntry
+whole-apart = pairwise-by Apart (λ m n. not (same (name m) (name n))) (λ m n e. e) (map setting settingsHeld ++ others) refl
+
+module _ (p : Setting → Bool) (ms : List Mnemonic) where
+  each-fewer : (P : Mnemonic → Type 0) (xs : List Setting) → Each P (map setting xs ++ ms) → Each P (map setting (those p xs) ++ ms)
+  each-fewer P [] e = e
+  each-fewer P (x ∷ xs) e =
+      cond-cases (λ (ys : List Setting). Each P (map setting ys ++ ms)) (p x) (x ∷ those p xs) (those p xs) (λ _. (e .0, each-fewer P xs (e .1))) (λ _. each-fewer P xs (e .1))
+
+  apart-fewer : (xs : List Setting) → Pairwise Apart (map setting xs ++ ms) → Pairwise Apart (map setting (those p xs) ++ ms)
+  apart-fewer [] d = d
+  apart-fewer (x ∷ xs) d =
+      cond-cases (λ (ys : List Setting). Pairwise Apart (map setting ys ++ ms)) (p x) (x ∷ those p xs) (those p xs)
+      (λ _. (each-fewer _ xs (d .0), apart-fewer xs (d .1))) (λ _. apart-fewer xs (d .1))
+
+pub same-self : (s : List ℕ) → same s s ≡ true
+unfolding same
+same-self [] = refl
+same-self (b ∷ s) = rw (eq-eqb b b refl) (same-self s)
+
+-- so each is found by its name
+found-apart : (ms : List Mnemonic) → Pairwise Apart ms → Each (λ m. found (name m) ms ≡ Known m) ms
+unfolding found
+found-apart [] d = tt
+found-apart (m ∷ ms) d = (
+  rw (same-self (name m)),
+  each-both (Apart m) (λ n. found (name n) ms ≡ Known n) _ (λ n a e. rw (not-true (same (name m) (name n)) a) e) ms (d .0) (found-apart ms (d .1)),
+)
+
 pub all-found : (model : Model) → Each (λ m. recognised model (name m) ≡ Known m) (known model)
-unfolding known sheet recognised found same switchingEntry storedEntry
-all-found model =
-    let f : Model → List Named = λ m. map (λ n. recognised m (name n)) (known m) in
-    let g : Model → List Named = λ m. map Known (known m) in
-    map-each (λ n. recognised model (name n)) Known (known model) (every-model (λ m. f m ≡ g m) (map-each f g models refl) model)
+unfolding known sheet recognised
+all-found model = found-apart (map setting (those (takes model) settingsHeld) ++ others) (apart-fewer (takes model) others settingsHeld whole-apart)
 
 commaless : List ℕ → Bool
 commaless s = every (λ b. not (eqb b (code ","))) s

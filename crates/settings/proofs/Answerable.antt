@@ -1,11 +1,11 @@
 -- Which selections a model can answer, and which of them is the error word.
 use Prim.Native.Nat.{ℕ, zero, suc, _≤_, _<_}
 use mathlib.Core.Path.{_≡_, refl, sym, ap, _∙_}
-use mathlib.Core.Bool.{Bool·beq, true, false, and-true, and-false}
+use mathlib.Core.Bool.{Bool·beq, true, false, not, and-true, and-false}
 use mathlib.Core.Logic.{⊎-elim}
 use mathlib.Mathlib.Data.Bool.Basic.{dichotomy}
 use native.Mathlib.Omega.{arith}
-use borrow.Author.Tests.{ltb-true}
+use borrow.Author.Tests.{ltb-true, not-true}
 use lib.Dec.{ltb}
 use Rattle.ground.specs.Members.{every, Each}
 use Rattle.ground.proofs.Cases.{below, beq-same, cond-cases}
@@ -23,8 +23,7 @@ use Rattle.settings.specs.declared.mnemonic.Replying.{Replying}
 use Rattle.settings.specs.declared.mnemonic.Replying.the-variants.{OfSetting, Cf, OfQuery}
 use Rattle.settings.specs.declared.mnemonic.Mnemonic.{Mnemonic}
 use Rattle.settings.specs.declared.mnemonic.Mnemonic.the-variants.{OfReplying, Com, Sav}
-use Rattle.settings.specs.declared.mnemonic.Named.the-variants.{Unknown}
-use Rattle.settings.proofs.Every.{every-model, tested, channels-few}
+use Rattle.settings.proofs.Every.{tested, channels-few}
 use Rattle.settings.proofs.Tabled.{switching-past, stored-past}
 use Rattle.settings.proofs.Storing.{Holding}
 use Rattle.settings.proofs.Storing.Holding.{uni, cal, sp, kept}
@@ -33,9 +32,9 @@ use Rattle.settings.proofs.Sheets.{held-each, others-each}
 -- ---- settings
 
 -- a number that is none of its family has a name that is not known
-no-name : (model : Model) → recognised model (nothing .name) ≡ Unknown
-unfolding recognised known sheet found same switchingEntry storedEntry
-no-name = every-model (λ model. recognised model (nothing .name) ≡ Unknown) (refl, (refl, tt))
+no-name : (model : Model) → isKnown (recognised model (nothing .name)) ≡ false
+unfolding recognised known sheet found same switchingEntry storedEntry every
+no-name model = not-true _ (tested (λ m. not (isKnown (recognised m (nothing .name)))) refl model)
 
 -- what is held is known exactly where the model takes it
 held-known : (model : Model) → Each (λ x. Bool·beq (takes model x) (isKnown (recognised model (name (setting x)))) ≡ true) settingsHeld
@@ -53,7 +52,7 @@ setting-known model x = by x
     none : (x : Setting) → settingEntry x ≡ nothing → takes model x ≡ isKnown (recognised model (name (setting x)))
     none x e =
         ap (λ (r : TableRow). ltb 0 (r .fields model .count)) e
-        ∙ sym (ap (λ (r : TableRow). isKnown (recognised model (r .name))) e ∙ ap isKnown (no-name model))
+        ∙ sym (ap (λ (r : TableRow). isKnown (recognised model (r .name))) e ∙ no-name model)
 
     by : (x : Setting) → takes model x ≡ isKnown (recognised model (name (setting x)))
     by Uni = here Uni uni

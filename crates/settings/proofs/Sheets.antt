@@ -2,7 +2,7 @@
 use Prim.Native.Nat.{ℕ, zero, suc, _+_, _*_, _<_}
 use mathlib.Core.Path.{_≡_, refl, sym, ap, _∙_, subst}
 use mathlib.Core.List.{List, [], _∷_, _++_, map}
-use mathlib.Core.Bool.{Bool, true, false, cond, not, _&&_, and-eq-true-iff}
+use mathlib.Core.Bool.{Bool, true, false, cond, not}
 use mathlib.Core.Logic.{_≢_, _⊎_, inl, inr, ⊎-elim, _↔_}
 use mathlib.Mathlib.Data.Bool.Basic.{dichotomy}
 use native.Mathlib.Omega.{arith}
@@ -11,9 +11,8 @@ use lib.ListN.{length, getD, take, drop}
 use lib.Seq.{getD-take}
 use lib.Dec.{ltb, eqb}
 use Rattle.ground.specs.Members.{every, Each, those}
-use Rattle.ground.proofs.Cases.{cond-cases}
 use Rattle.ground.proofs.Tables.{alike}
-use Rattle.ground.proofs.Members.{each-map, each-both, each-all, each-take, each-drop, each-at, every-each, each-every, each-those, those-each, each-taken}
+use Rattle.ground.proofs.Members.{each-map, each-both, each-all, each-take, each-drop, each-at, every-each, each-every, each-those, those-each, each-taken, Pairwise, pairwise, pairwise-by, pairwise-those}
 use Rattle.numbers.specs.declared.threshold.Threshold.{Threshold}
 use Rattle.settings.specs.Rows.{plain, listed, row}
 use Rattle.settings.specs.Table.{kindsOf, settingEntry, fieldCount, cells}
@@ -95,35 +94,18 @@ off-sheet model s x t =
 -- ---- no setting twice
 
 abbrev pub Distinct : List Setting → Type 0
-Distinct [] = Unit {0}
-Distinct (x ∷ xs) = Each (λ y. x ≢ y) xs × Distinct xs
+Distinct = Pairwise (λ x y. x ≢ y)
 
 apart : Setting → Setting → Bool
 apart x y = not (eqb (line x) (line y))
-
-unfoldable differing : List Setting → Bool
-differing [] = true
-differing (x ∷ xs) = every (apart x) xs && differing xs
 
 unlike-apart : (x y : Setting) → apart x y ≡ true → x ≢ y
 unfolding apart
 unlike-apart x y e q = eqb-false (line x) (line y) (not-true (eqb (line x) (line y)) e) (ap line q)
 
-all-apart : (xs : List Setting) → differing xs ≡ true → Distinct xs
-unfolding differing
-all-apart [] e = tt
-all-apart (x ∷ xs) e =
-    let b = and-eq-true-iff (every (apart x) xs) (differing xs) .0 e in
-    (each-map (λ y. apart x y ≡ true) (λ y. x ≢ y) (unlike-apart x) xs (every-each (apart x) xs (b .0)), all-apart xs (b .1))
-
-distinct-those : (p : Setting → Bool) (xs : List Setting) → Distinct xs → Distinct (those p xs)
-distinct-those p [] d = tt
-distinct-those p (x ∷ xs) d =
-    cond-cases Distinct (p x) (x ∷ those p xs) (those p xs) (λ _. (each-those _ p xs (d .0), distinct-those p xs (d .1))) (λ _. distinct-those p xs (d .1))
-
 pub sheet-distinct : (model : Model) → Distinct (sheet model)
-unfolding differing every apart sheet
-sheet-distinct model = distinct-those (takes model) settingsHeld (all-apart settingsHeld refl)
+unfolding pairwise every apart sheet
+sheet-distinct model = pairwise-those (λ x y. x ≢ y) (takes model) settingsHeld (pairwise-by (λ x y. x ≢ y) apart unlike-apart settingsHeld refl)
 
 -- those behind a cut are apart from those before it
 pub distinct-cut : (n : ℕ) (xs : List Setting) → Distinct xs → Each (λ y. Each (λ x. y ≢ x) (take n xs)) (drop n xs)

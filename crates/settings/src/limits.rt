@@ -75,7 +75,7 @@ impl Settings {
         row_is_within(fields, self.row(x), default)
     }
 
-    // Whether a box of the model may be set so; no early end, so that the compiler unrolls the loop.
+    // Whether a box of the model may be set so.
     pub fn is_within(self, model: Model) -> bool
         ensures { λ r. ⌜ r ≡ within model self ⌝ }
     {

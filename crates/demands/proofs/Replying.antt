@@ -10,20 +10,17 @@ use Rattle.ground.proofs.Sequences.{take-set}
 use Rattle.text.specs.Control.{etx}
 use Rattle.settings.specs.Rows.{plain, pairRow, firstNumber, listed, row}
 use Rattle.settings.specs.Table.{factor, settingEntry, entry, fieldCount}
-use Rattle.settings.specs.Mnemonics.{sheet, setting, known, name, isThere}
+use Rattle.settings.specs.Mnemonics.{setting, known, name, isThere}
 use Rattle.settings.specs.declared.mnemonic.Setting.{Setting}
 use Rattle.settings.specs.declared.mnemonic.Setting.the-variants.{Cal}
-use Rattle.settings.specs.declared.mnemonic.Query.{Query}
-use Rattle.settings.specs.declared.mnemonic.Query.the-variants.{Sps, Pr, Prx, Tid, Ayt, Err}
 use Rattle.settings.specs.declared.mnemonic.Replying.{Replying}
-use Rattle.settings.specs.declared.mnemonic.Replying.the-variants.{Cf, OfQuery}
+use Rattle.settings.specs.declared.mnemonic.Replying.the-variants.{OfSetting, Cf, OfQuery}
 use Rattle.settings.specs.declared.mnemonic.Mnemonic.{Mnemonic}
 use Rattle.settings.specs.declared.mnemonic.Mnemonic.the-variants.{OfReplying, Com, Sav}
 use Rattle.settings.specs.declared.rows.Row.{Row}
 use Rattle.settings.proofs.Tabled.{few-kinds}
 use Rattle.settings.proofs.Places.{number-plain, row-places}
 use Rattle.settings.proofs.Storing.{Holding, mixed-front, stored-row, factor-row}
-use Rattle.settings.proofs.Sheets.{OnSheet, sheet-holds, known-each}
 use Rattle.settings.proofs.StoredLimits.{Fitting, fitting-canon}
 use Rattle.lines.specs.Words.{noError, gathered}
 use Rattle.lines.specs.Judging.{judged}
@@ -33,7 +30,7 @@ use Rattle.lines.specs.declared.verdict.Fault.the-variants.{Hardware}
 use Rattle.lines.specs.declared.verdict.Verdict.{Verdict}
 use Rattle.lines.specs.declared.verdict.Verdict.the-variants.{Asks, Writes, Refused}
 use Rattle.lines.proofs.Accepted.{Spelt, all-spelt}
-use Rattle.lines.proofs.WrittenLimits.{writes-fitting}
+use Rattle.lines.proofs.WrittenLimits.{writes-fitting, Kept, known-kept}
 use Rattle.ports.specs.Hearing.{selected}
 use Rattle.ports.specs.declared.Selection.{Selection}
 use Rattle.ports.specs.declared.Selection.the-variants.{Nothing, Chosen}
@@ -141,49 +138,13 @@ module _ (s : State) (k : Sound s) where
       let own : plain (firstNumber r) ≡ r .first = sym (number-plain (factor m) (r .first) refl fits) in
       rw (factor-row m b r (k .shaped .instrument .settings) c h, own, take-set (fieldCount m Cal) c (r .first) (listed (row b Cal)))
 
-  query-back : (q : Query) → Back (OfReplying (OfQuery q))
+  all-back : (m : Mnemonic) → Kept m → Back m
   unfolding Back replyText written
-  query-back q r f error = refl
-
-  com-back : Back Com
-  unfolding Back replyText written
-  com-back r f error = refl
-
-  sav-back : Back Sav
-  unfolding Back replyText written
-  sav-back r f error = refl
-
-  -- those of the sheet, and the others
-  all-back : Each Back (known (s .instrument .model))
-  all-back =
-      known-each Back (s .instrument .model) (each-map (OnSheet (s .instrument .model)) (λ (x : Setting). Back (setting x)) (λ x o. setting-back x (o .holding)) (sheet (s .instrument .model)) (sheet-holds (s .instrument .model))) (
-        factor-back 0 (omega arith),
-        (
-          factor-back 1 (omega arith),
-          (
-            query-back Sps,
-            (
-              query-back (Pr 0),
-              (
-                query-back (Pr 1),
-                (
-                  query-back Prx,
-                  (
-                    query-back Tid,
-                    (
-                      query-back Ayt,
-                      (
-                        query-back Err,
-                        (com-back, (sav-back, tt)),
-                      ),
-                    ),
-                  ),
-                ),
-              ),
-            ),
-          ),
-        ),
-      )
+  all-back (OfReplying (OfSetting x)) h = setting-back x h
+  all-back (OfReplying (Cf c)) h = factor-back c h
+  all-back (OfReplying (OfQuery q)) h = λ r f error. refl
+  all-back Com h = λ r f error. refl
+  all-back Sav h = λ r f error. refl
 
   writes-back : (m : Mnemonic) → Back m → WritesBack said s m
   unfolding Back
@@ -197,4 +158,4 @@ mnemonics-answered s k =
     let model = s .instrument .model in
     each-both (λ (m : Mnemonic). Reads said s m) (WritesBack said s) (λ (m : Mnemonic). Reads said s m × WritesBack said s m) (λ m a b. (a, b)) (known model)
     (each-both (Spelt model) (λ (m : Mnemonic). Short (name m)) (λ (m : Mnemonic). Reads said s m) (reads s k) (known model) (all-spelt model) (names-short model))
-    (each-map (Back s k) (WritesBack said s) (writes-back s k) (known model) (all-back s k))
+    (each-map Kept (WritesBack said s) (λ m h. writes-back s k m (all-back s k m h)) (known model) (known-kept model))

@@ -22,6 +22,7 @@ use Rattle.gauges.proofs.ReadingLimits.{none-within}
 use Rattle.settings.specs.Models.{channels, startsOn, follows, agrees}
 use Rattle.settings.specs.Rows.{firstNumber, switchingOf, mixed, noSwitching, row}
 use Rattle.settings.specs.Table.{TableRow, kindsOf, defaults, fieldCount, stored}
+use Rattle.settings.specs.Mnemonics.{setting}
 use Rattle.settings.specs.Limits.{within, SettingsShaped}
 use Rattle.settings.specs.declared.model.Model.{Model}
 use Rattle.settings.specs.declared.mnemonic.Setting.the-variants.{Uni, Cal, Sp, Stored}
@@ -156,15 +157,21 @@ module _ (s : Instrument) (r : Row) where
   saved-keeps P a b d Com = b
   saved-keeps P a b d Sav = cond-cases P (eqb (firstNumber r) 0) (defaults (s .model)) (s .settings) (λ _. d) (λ _. a)
 
+  -- only SPx moves a switch, and the switching function beside it
+  moved-by : (P : List Switching → List Bool → Type 0) → P (s .settings .switching) (s .switches)
+      → ((k : ℕ) → P (stored (s .model) (s .settings) (setting (Sp k)) r .switching) (set (s .switches) k (startsOn (s .model) (firstNumber r))))
+      → (m : Mnemonic) → P (stored (s .model) (s .settings) m r .switching) (switchesBy s m r)
+  moved-by P same moved (OfReplying (OfSetting (Sp k))) = moved k
+  moved-by P same moved (OfReplying (OfSetting Uni)) = same
+  moved-by P same moved (OfReplying (OfSetting Cal)) = same
+  moved-by P same moved (OfReplying (OfSetting (Stored k))) = same
+  moved-by P same moved (OfReplying (Cf k)) = same
+  moved-by P same moved (OfReplying (OfQuery q)) = same
+  moved-by P same moved Com = same
+  moved-by P same moved Sav = same
+
   switches-count : (m : Mnemonic) → length (switchesBy s m r) ≡ length (s .switches)
-  switches-count (OfReplying (OfSetting (Sp k))) = length-set (s .switches) k (startsOn (s .model) (firstNumber r))
-  switches-count (OfReplying (OfSetting Uni)) = refl
-  switches-count (OfReplying (OfSetting Cal)) = refl
-  switches-count (OfReplying (OfSetting (Stored k))) = refl
-  switches-count (OfReplying (Cf k)) = refl
-  switches-count (OfReplying (OfQuery q)) = refl
-  switches-count Com = refl
-  switches-count Sav = refl
+  switches-count = moved-by (λ ws on. length on ≡ length (s .switches)) refl (λ k. length-set (s .switches) k (startsOn (s .model) (firstNumber r)))
 
   module _ (t : InstrumentShaped s) (i : ℕ) (l : i ≤ 3) (h : status s i ≡ true) where
     -- after SPx that switching function is as it starts, and the others are as they were
@@ -195,14 +202,9 @@ module _ (s : Instrument) (r : Row) where
         ap (λ (e : TableRow). firstNumber (mixed (length (kindsOf (e .fields (s .model)))) r (row (s .settings) (Sp k)))) (switching-there k g)
 
     written-agrees : (m : Mnemonic) → switchWithin (s .model) (stored (s .model) (s .settings) m r .switching) (switchesBy s m r) i ≡ true
-    written-agrees (OfReplying (OfSetting (Sp k))) = assigned k (switchingOf (mixed (fieldCount (s .model) (Sp k)) r (row (s .settings) (Sp k)))) (assignment-is k)
-    written-agrees (OfReplying (OfSetting Uni)) = h
-    written-agrees (OfReplying (OfSetting Cal)) = h
-    written-agrees (OfReplying (OfSetting (Stored k))) = h
-    written-agrees (OfReplying (Cf k)) = h
-    written-agrees (OfReplying (OfQuery q)) = h
-    written-agrees Com = h
-    written-agrees Sav = h
+    written-agrees =
+        moved-by (λ ws on. switchWithin (s .model) ws on i ≡ true) h
+        (λ k. assigned k (switchingOf (mixed (fieldCount (s .model) (Sp k)) r (row (s .settings) (Sp k)))) (assignment-is k))
 
 module _ (s : Instrument) where
   pub applied-shaped : (v : Verdict) → InstrumentShaped s → InstrumentShaped (applied s v)

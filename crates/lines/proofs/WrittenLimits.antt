@@ -1,5 +1,5 @@
 -- What an accepted line writes fits its fields, so it keeps the limits of the settings.
-use Prim.Native.Nat.{ℕ, _≤_}
+use Prim.Native.Nat.{ℕ, _≤_, _<_}
 use mathlib.Core.Path.{_≡_, refl, sym, ap, _∙_, subst}
 use mathlib.Core.List.{List, [], _∷_, map}
 use mathlib.Core.Bool.{true, _&&_}
@@ -242,16 +242,16 @@ module _ (model : Model) (line : List ℕ) (m : Mnemonic) (r : Row) (e : judged 
 
 -- ---- the settings
 
--- a setting that is known is one that the arrays hold
-abbrev Kept : Mnemonic → Type 0
+-- a setting that is known is one that the arrays hold, and a factor that of a channel
+abbrev pub Kept : Mnemonic → Type 0
 Kept (OfReplying (OfSetting x)) = Holding x
-Kept (OfReplying (Cf k)) = Unit {0}
+Kept (OfReplying (Cf k)) = k < 2
 Kept (OfReplying (OfQuery q)) = Unit {0}
 Kept Com = Unit {0}
 Kept Sav = Unit {0}
 
 -- of the others there is nothing to say
-known-kept : (model : Model) → Each Kept (known model)
+pub known-kept : (model : Model) → Each Kept (known model)
 known-kept model = known-each Kept model (each-map (OnSheet model) Holding (λ x o. o .holding) (sheet model) (sheet-holds model)) (omega arith)
 
 line-within : (model : Model) (s : Settings) (line : List ℕ) (m : Mnemonic) (r : Row) → SettingsShaped s → within model s ≡ true → judged model line ≡ Writes m r

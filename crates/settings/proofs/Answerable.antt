@@ -99,37 +99,30 @@ module _ (model : Model) where
       by Com k = tt
       by Sav k = tt
 
+  others-named : Each (λ m. isKnown (recognised model (name m)) ≡ true) others
+  others-named = others-each _ model (known-named model)
+
   -- a family of two is known for the channels that there are
-  two-answer : (f : ℕ → Replying) → ((k : ℕ) → channelOf (f k) ≡ k) → ((k : ℕ) → k < 2 → isKnown (recognised model (name (OfReplying (f k)))) ≡ true) → (k : ℕ) → isThere model (OfReplying (f k)) ≡ answers model (f k)
-  two-answer f c e k =
-      there-answers (f k) (λ t. let l = ltb-true (channelOf (f k)) (channels model) t in e k (omega (arith, channels-few model, c k)))
+  two-answer : (f : ℕ → Replying) → ((k : ℕ) → channelOf (f k) ≡ k) → isKnown (recognised model (name (OfReplying (f 0)))) ≡ true
+      → isKnown (recognised model (name (OfReplying (f 1)))) ≡ true → (k : ℕ) → isThere model (OfReplying (f k)) ≡ answers model (f k)
+  two-answer f c p q k =
+      there-answers (f k) (λ t. let l = ltb-true (channelOf (f k)) (channels model) t in by k (omega (arith, channels-few model, c k)))
+    where
+      by : (k : ℕ) → k < 2 → isKnown (recognised model (name (OfReplying (f k)))) ≡ true
+      by zero h = p
+      by (suc zero) h = q
+      by (suc (suc k)) h = absurd (omega arith)
 
   pub factor-answers : (k : ℕ) → isThere model (OfReplying (Cf k)) ≡ answers model (Cf k)
-  factor-answers = two-answer Cf (λ k. refl) known
-    where
-      known : (k : ℕ) → k < 2 → isKnown (recognised model (name (OfReplying (Cf k)))) ≡ true
-      known zero h = others-each _ model (known-named model) .0
-      known (suc zero) h = others-each _ model (known-named model) .1 .0
-      known (suc (suc k)) h = absurd (omega arith)
+  factor-answers = two-answer Cf (λ k. refl) (others-named .0) (others-named .1 .0)
 
   pub query-answers : (q : Query) → isThere model (OfReplying (OfQuery q)) ≡ answers model (OfQuery q)
-  query-answers q = by q
-    where
-      e : Each (λ m. isKnown (recognised model (name m)) ≡ true) others
-      e = others-each _ model (known-named model)
-
-      known : (k : ℕ) → k < 2 → isKnown (recognised model (name (OfReplying (OfQuery (Pr k))))) ≡ true
-      known zero h = e .1 .1 .1 .0
-      known (suc zero) h = e .1 .1 .1 .1 .0
-      known (suc (suc k)) h = absurd (omega arith)
-
-      by : (q : Query) → isThere model (OfReplying (OfQuery q)) ≡ answers model (OfQuery q)
-      by Sps = there-answers (OfQuery Sps) (λ _. e .1 .1 .0)
-      by (Pr k) = two-answer (λ k. OfQuery (Pr k)) (λ k. refl) known k
-      by Prx = there-answers (OfQuery Prx) (λ _. e .1 .1 .1 .1 .1 .0)
-      by Tid = there-answers (OfQuery Tid) (λ _. e .1 .1 .1 .1 .1 .1 .0)
-      by Ayt = there-answers (OfQuery Ayt) (λ _. e .1 .1 .1 .1 .1 .1 .1 .0)
-      by Err = there-answers (OfQuery Err) (λ _. e .1 .1 .1 .1 .1 .1 .1 .1 .0)
+  query-answers Sps = there-answers (OfQuery Sps) (λ _. others-named .1 .1 .0)
+  query-answers (Pr k) = two-answer (λ k. OfQuery (Pr k)) (λ k. refl) (others-named .1 .1 .1 .0) (others-named .1 .1 .1 .1 .0) k
+  query-answers Prx = there-answers (OfQuery Prx) (λ _. others-named .1 .1 .1 .1 .1 .0)
+  query-answers Tid = there-answers (OfQuery Tid) (λ _. others-named .1 .1 .1 .1 .1 .1 .0)
+  query-answers Ayt = there-answers (OfQuery Ayt) (λ _. others-named .1 .1 .1 .1 .1 .1 .1 .0)
+  query-answers Err = there-answers (OfQuery Err) (λ _. others-named .1 .1 .1 .1 .1 .1 .1 .1 .0)
 
 -- ---- no setting is the error word
 

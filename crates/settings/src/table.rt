@@ -228,11 +228,11 @@ impl Model {
         }
     }
 
-    // The default of a setting that is only stored and answered.
-    fn preset(self, k: u8) -> Pair
-        ensures { λ r. ⌜ r ≡ pairOf (storedEntry k .default self) ⌝ }
+    // The default of a setting, as its first two numbers.
+    fn preset(self, x: Setting) -> Pair
+        ensures { λ r. ⌜ r ≡ pairOf (settingEntry x .default self) ⌝ }
     {
-        let e = self.stored_entry(k);
+        let e = self.setting_entry(x);
         let d = e.default;
         let a = d.first;
         let b = d.second;
@@ -246,27 +246,29 @@ impl Model {
     pub fn defaults(self) -> Settings
         ensures { λ r. ⌜ r ≡ defaults self ⌝ }
     {
+        let uni = self.preset(Setting::Uni);
+        let cal = self.preset(Setting::Cal);
         let w = Switching {
             assignment: 0,
             lower: LOWER,
             upper: UPPER,
         };
         Settings {
-            unit: 4,
-            factors: [1000, 1000],
+            unit: uni.first,
+            factors: [cal.first, cal.second],
             switching: [w, w, w, w],
             stored: [
-                self.preset(0),
-                self.preset(1),
-                self.preset(2),
-                self.preset(3),
-                self.preset(4),
-                self.preset(5),
-                self.preset(6),
-                self.preset(7),
-                self.preset(8),
-                self.preset(9),
-                self.preset(10),
+                self.preset(Setting::Stored(0)),
+                self.preset(Setting::Stored(1)),
+                self.preset(Setting::Stored(2)),
+                self.preset(Setting::Stored(3)),
+                self.preset(Setting::Stored(4)),
+                self.preset(Setting::Stored(5)),
+                self.preset(Setting::Stored(6)),
+                self.preset(Setting::Stored(7)),
+                self.preset(Setting::Stored(8)),
+                self.preset(Setting::Stored(9)),
+                self.preset(Setting::Stored(10)),
             ],
         }
     }

@@ -1,4 +1,4 @@
--- Each pair is the default of its row.
+-- Each number is the default of its row.
 use borrow.Author.Needs.{needs}
 use Rattle.settings.specs.Table.{storedEntry}
 use Rattle.settings.proofs.model.Model.defaults.Statement.{statement}
@@ -37,9 +37,15 @@ preset-requires-10 c κs = search needs
 preset-requires-11 : tie.Need-preset-requires-11
 preset-requires-11 c κs = search needs
 
+preset-requires-12 : tie.Need-preset-requires-12
+preset-requires-12 c κs = search needs
+
+preset-requires-13 : tie.Need-preset-requires-13
+preset-requires-13 c κs = search needs
+
 returns : tie.Need-returns
 unfolding storedEntry
-returns c = rw (c .preset11 .ensures, c .before .preset10 .ensures, c .before .before .preset9 .ensures, c .before .before .before .preset8 .ensures, c .before .before .before .before .preset7 .ensures, c .before .before .before .before .before .preset6 .ensures, c .before .before .before .before .before .before .preset5 .ensures, c .before .before .before .before .before .before .before .preset4 .ensures, c .before .before .before .before .before .before .before .before .preset3 .ensures, c .before .before .before .before .before .before .before .before .before .preset2 .ensures, c .before .before .before .before .before .before .before .before .before .before .preset .ensures)
+returns c = rw (c .preset13 .ensures, c .before .preset12 .ensures, c .before .before .preset11 .ensures, c .before .before .before .preset10 .ensures, c .before .before .before .before .preset9 .ensures, c .before .before .before .before .before .preset8 .ensures, c .before .before .before .before .before .before .preset7 .ensures, c .before .before .before .before .before .before .before .preset6 .ensures, c .before .before .before .before .before .before .before .before .preset5 .ensures, c .before .before .before .before .before .before .before .before .before .preset4 .ensures, c .before .before .before .before .before .before .before .before .before .before .preset3 .ensures, c .before .before .before .before .before .before .before .before .before .before .before .preset2 .ensures, c .before .before .before .before .before .before .before .before .before .before .before .before .preset .ensures)
 
 pub defaults-spec : {M : Type 1} → statement M
 defaults-spec =
@@ -56,4 +62,6 @@ defaults-spec =
     preset-requires-9
     preset-requires-10
     preset-requires-11
+    preset-requires-12
+    preset-requires-13
     returns)

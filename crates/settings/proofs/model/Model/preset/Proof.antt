@@ -3,11 +3,11 @@ use borrow.Author.Needs.{needs}
 use Rattle.settings.proofs.model.Model.preset.Statement.{statement}
 use Rattle.settings.proofs.model.Model.preset.Tie as tie
 
-stored-entry-requires : tie.Need-stored-entry-requires
-stored-entry-requires c κs = search needs
+setting-entry-requires : tie.Need-setting-entry-requires
+setting-entry-requires c κs = search needs
 
 returns : tie.Need-returns
-returns c = rw (c .before .before .before .stored-entry .ensures)
+returns c = rw (c .before .before .before .setting-entry .ensures)
 
 pub preset-spec : {M : Type 1} → statement M
-preset-spec = tie.close (tie.spec stored-entry-requires returns)
+preset-spec = tie.close (tie.spec setting-entry-requires returns)

@@ -44,7 +44,7 @@ unfoldable pub formed : List Field → Verdict → Verdict
 formed [] v = v
 formed (r ∷ rs) v = formOr r (formed rs v)
 
--- a field with a fault of value is refused with it
+-- a field with a fault is refused with it; behind the test of form that is one of value
 abbrev pub valueOr : Field → Verdict → Verdict
 valueOr (Held c) v = v
 valueOr (Faulty x) v = Refused x

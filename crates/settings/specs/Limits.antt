@@ -43,7 +43,7 @@ fits (OfWhole l) c = inside l c
 fits (OfFactor l) c = inside l c
 fits OfThreshold c = withinStops c
 
--- "every value above in range": a cell fits its field; "channel-2 cells at their defaults": so is a cell for which there is no field
+-- "every value above in range": a cell fits its field; "channel-2 cells at their defaults": a cell without a field is at its default
 unfoldable pub cellsFit : List Kind → List Threshold → List Threshold → Bool
 cellsFit ks [] ds = true
 cellsFit ks (c ∷ cs) [] = false

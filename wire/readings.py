@@ -1,0 +1,96 @@
+"""The text of readings: a line that a person or a program writes, and the frame that tells it to the engine."""
+
+import re
+
+from wire.trace import named
+
+LONGEST = 200
+KINDS = "TPR/PCR IKR PKR PBR IMR CMR/APR noSEn noid".split()
+NO_SENSOR, STATUS_NO_SENSOR = 6, 5
+DIGITS = 5
+
+HELP = """\
+CHANNEL KIND STATUS VALUE   a reading: channel 1 or 2, kind by name or number, status 0 to 6, value in hPa
+                            (1 CMR/APR 0 1.013E3); kinds 0 to 7: %s
+CHANNEL off                 no sensor on that channel (2 off)
+cycle                       a power cycle
+help                        this text
+quit                        the box ends""" % ", ".join(KINDS)
+
+REASONS = {
+    4: "this model has no such channel",
+    5: "no reading is so: kind 0 to 7, status 0 to 6, exponent -20 to 20; "
+    "noSEn has status 5 and the value 0, noid status 6, and no other kind has these",
+}
+
+VALUE = re.compile(r"([+-]?)([0-9]*)(?:\.([0-9]*))?(?:[Ee]([+-]?[0-9]+))?")
+
+
+class NotUnderstood(Exception):
+    """A line that says nothing to the box, with the reason."""
+
+
+def text(line):
+    """The text of a line of bytes; one that does not end may be cut, 1.0 for 1.013E3, and says nothing."""
+    body, end, _ = line.partition(b"\n")
+    body = (body[:-1] if body.endswith(b"\r") else body).replace(b"\t", b" ")
+    if len(body) > LONGEST:
+        raise NotUnderstood("a line of more than %d characters" % LONGEST)
+    if not end:
+        raise NotUnderstood("'%s' does not end and may be cut" % named(body))
+    return named(body)
+
+
+def _byte(word, what):
+    """A whole number that fits a byte of a frame; whether the box has it, the box decides."""
+    if not re.fullmatch("[0-9]{1,3}", word) or int(word) > 255:
+        raise NotUnderstood("%s '%s' is no whole number from 0 to 255" % (what, word))
+    return int(word)
+
+
+def _kind(word):
+    names = [name.lower() for name in KINDS]
+    if word.lower() in names:
+        return names.index(word.lower())
+    if not word.isdigit():
+        raise NotUnderstood("kind '%s' is none of %s, and no number" % (word, ", ".join(KINDS)))
+    return _byte(word, "kind")
+
+
+def value(word):
+    """Sign, mantissa of five digits and exponent of a number; no digit of it is lost."""
+    match = VALUE.fullmatch(word)
+    whole, part = (match.group(2), match.group(3) or "") if match else ("", "")
+    if not whole + part:
+        raise NotUnderstood("value '%s' is no number such as 1.013E3" % word)
+    digits = (whole + part).lstrip("0")
+    if not digits:
+        return 0, 0, 0
+    if len(digits.rstrip("0")) > DIGITS:
+        raise NotUnderstood("value '%s' has more than five digits; round it as you see fit" % word)
+    exponent = int(match.group(4) or "0") - len(part) + len(digits) - 1
+    # before it becomes a byte, where 261 would be 5
+    if not -128 <= exponent <= 127:
+        raise NotUnderstood("value '%s' is %sE%+d, beyond any reading" % (word, digits[0], exponent))
+    return int(match.group(1) == "-"), int(digits.rstrip("0").ljust(DIGITS, "0")), exponent
+
+
+def _reading(channel, kind, status, sign, mantissa, exponent):
+    parts = bytes([2, channel, kind, status, sign])
+    return parts + mantissa.to_bytes(3, "big") + exponent.to_bytes(1, "big", signed=True)
+
+
+def frame(line):
+    """The frame of a line that is a reading or a power cycle."""
+    words = line.split()
+    if words == ["cycle"]:
+        return bytes([5])
+    if len(words) == 2 and words[1] == "off":
+        return _reading(_byte(words[0], "channel"), NO_SENSOR, STATUS_NO_SENSOR, 0, 0, 0)
+    if not words:
+        raise NotUnderstood("an empty line")
+    if len(words) != 4:
+        raise NotUnderstood("'%s' is neither four words, channel, kind, status and value, nor one of: "
+                            "CHANNEL off, cycle, help, quit" % line.strip())
+    channel, kind, status = _byte(words[0], "channel"), _kind(words[1]), _byte(words[2], "status")
+    return _reading(channel, kind, status, *value(words[3]))

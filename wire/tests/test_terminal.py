@@ -1,0 +1,135 @@
+"""The pseudo-terminal: the traps of a line that clients open, set, leave and do not read."""
+
+import array
+import fcntl
+import os
+import select
+import termios
+import time
+import unittest
+
+from wire.terminal import STREAM_WAITS, Terminal
+
+
+def settled(fd):
+    """Everything that is on its way to a reader, waited for and not slept for."""
+    data = b""
+    while select.select([fd], [], [], 0.05)[0]:
+        data += os.read(fd, 65536)
+    return data
+
+
+def waiting(fd):
+    """The number of bytes that a client could read."""
+    count = array.array("i", [0])
+    fcntl.ioctl(fd, termios.FIONREAD, count)
+    return count[0]
+
+
+class TerminalTest(unittest.TestCase):
+    def setUp(self):
+        self.terminal = Terminal()
+        self.addCleanup(self.terminal.close)
+
+    def client(self):
+        fd = os.open(self.terminal.name, os.O_RDWR | os.O_NOCTTY | os.O_NONBLOCK)
+        self.terminal.look()
+        return fd
+
+    def heard(self):
+        """What the box reads, once all of it is there."""
+        select.select([self.terminal.fd], [], [], 5)
+        return self.terminal.read()
+
+    def test_every_byte_passes_both_ways(self):
+        client = self.client()
+        every = bytes(range(256))
+        os.write(client, every)
+        self.assertEqual(self.heard(), every)
+        self.assertTrue(self.terminal.write(every))
+        self.assertEqual(settled(client), every)
+        os.close(client)
+
+    def test_what_the_box_says_does_not_come_back(self):
+        client = self.client()
+        self.terminal.write(b"0,+1.0130E+03\r\n")
+        settled(client)
+        self.assertEqual(self.terminal.read(), b"")
+        os.close(client)
+
+    def test_what_a_client_set_is_gone_when_it_leaves(self):
+        client = self.client()
+        mode = termios.tcgetattr(client)
+        mode[0] = termios.IGNCR | termios.INLCR | termios.ISTRIP | termios.IXON
+        mode[1] = termios.OPOST | termios.ONLCR
+        mode[3] = termios.ECHO | termios.ICANON | termios.ISIG
+        mode[6][termios.VMIN], mode[6][termios.VTIME] = 0, 0
+        termios.tcsetattr(client, termios.TCSANOW, mode)
+        os.close(client)
+        self.terminal.look()
+        client = self.client()
+        left = termios.tcgetattr(client)
+        self.assertEqual((left[0], left[1], left[3]), (0, 0, 0))
+        self.assertEqual((left[6][termios.VMIN], left[6][termios.VTIME]), (1, 0))
+        os.close(client)
+
+    def test_no_client_reads_what_was_said_to_no_one(self):
+        self.terminal.look()
+        self.assertFalse(self.terminal.is_open)
+        self.assertFalse(self.terminal.write(b"old\r\n"))
+        self.assertFalse(self.terminal.stream(b"old\r\n"))
+        client = self.client()
+        self.assertEqual(settled(client), b"")
+        os.close(client)
+
+    def test_no_client_reads_what_the_one_before_left(self):
+        client = self.client()
+        self.terminal.write(b"old\r\n")
+        select.select([client], [], [], 5)
+        os.close(client)
+        self.assertEqual(self.terminal.look(), 5)
+        self.assertEqual(self.terminal.look(), 0)
+        client = self.client()
+        self.assertEqual(settled(client), b"")
+        os.close(client)
+
+    def test_a_client_that_hangs_up_is_no_error_and_its_bytes_are_heard(self):
+        client = self.client()
+        os.write(client, b"COM,0\r")
+        os.close(client)
+        self.terminal.look()
+        self.assertTrue(self.terminal.is_open)
+        self.assertEqual(self.terminal.read(), b"COM,0\r")
+        self.assertEqual(self.terminal.read(), b"")
+        self.terminal.look()
+        self.assertFalse(self.terminal.is_open)
+
+    def test_the_stream_leaves_room_for_replies(self):
+        client = self.client()
+        line = b"5,+2.0000E-02\r\n"
+        written = 0
+        while self.terminal.stream(line):
+            written += len(line)
+            self.assertLess(written, STREAM_WAITS + len(line))
+            # ten lines a second at most: each has arrived before the next
+            end = time.monotonic() + 5
+            while waiting(client) < written and time.monotonic() < end:
+                pass
+        self.assertTrue(self.terminal.write(b"\x06\r\n"))
+        self.assertTrue(settled(client).endswith(line + b"\x06\r\n"))
+        self.assertTrue(self.terminal.stream(line))
+        os.close(client)
+
+    def test_a_message_is_never_cut(self):
+        client = self.client()
+        message = bytes(range(33, 97)) * 11 + b"\r\n"
+        count = 0
+        while self.terminal.write(message):
+            count += 1
+        read = settled(client)
+        while self.terminal.waits:
+            self.terminal.go_on()
+            read += settled(client)
+        self.assertEqual(read, message * count)
+        self.assertTrue(self.terminal.write(message))
+        os.close(client)

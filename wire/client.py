@@ -60,28 +60,49 @@ class Client:
         return self.enquired(wanted)
 
 
-class Port(Client):
-    """A client with nothing but the operating system; say is called with all that is said."""
+class Piped(Client):
+    """A client whose bytes go through file descriptors; say is called with all that is said."""
 
-    def __init__(self, path, say=lambda who, data: None):
-        self._fd = os.open(path, os.O_RDWR | os.O_NOCTTY | os.O_NONBLOCK)
-        self._read = b""
+    def __init__(self, read, write, say=lambda who, data: None):
+        self._read, self._write = read, write
+        self._begun = b""
         self._say = say
 
     def send(self, data):
         self._say("host", data)
-        os.write(self._fd, data)
+        try:
+            os.write(self._write, data)
+        except OSError:
+            raise Unexpected("the line is gone")
+
+    def _more(self):
+        """Bytes that are there to be read; none are, nor will be, where the other end has hung up."""
+        try:
+            more = os.read(self._read, 4096)
+        except OSError:
+            more = b""
+        if not more:
+            raise Unexpected("the line is gone")
+        return more
 
     def receive(self, patience=PATIENCE):
         end = time.monotonic() + patience
-        while b"\n" not in self._read:
-            if not select.select([self._fd], [], [], max(0, end - time.monotonic()))[0]:
+        while b"\n" not in self._begun:
+            if not select.select([self._read], [], [], max(0, end - time.monotonic()))[0]:
                 break
-            self._read += os.read(self._fd, 4096)
-        line, lf, self._read = self._read.partition(b"\n")
+            self._begun += self._more()
+        line, lf, self._begun = self._begun.partition(b"\n")
         if line + lf:
             self._say("box", line + lf)
         return line + lf
+
+
+class Port(Piped):
+    """A client with nothing but the operating system."""
+
+    def __init__(self, path, *say):
+        self._fd = os.open(path, os.O_RDWR | os.O_NOCTTY | os.O_NONBLOCK)
+        super().__init__(self._fd, self._fd, *say)
 
     def close(self):
         os.close(self._fd)

@@ -55,8 +55,8 @@ def check_link(path):
 def linked(path, name):
     """A link to the terminal, as long as the box runs."""
     try:
-        # a box that was killed left it behind
-        if os.path.islink(path) and not os.path.exists(path):
+        # a box that was killed left it behind, and its number may be this one's
+        if os.path.islink(path) and (not os.path.exists(path) or os.readlink(path) == name):
             os.unlink(path)
         os.symlink(name, path)
     except OSError as fault:

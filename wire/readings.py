@@ -90,7 +90,6 @@ def frame(line):
     if not words:
         raise NotUnderstood("an empty line")
     if len(words) != 4:
-        raise NotUnderstood("'%s' is neither four words, channel, kind, status and value, nor one of: "
-                            "CHANNEL off, cycle, help, quit" % line.strip())
+        raise NotUnderstood("'%s' is no reading, which has a channel, a kind, a status and a value" % line.strip())
     channel, kind, status = _byte(words[0], "channel"), _kind(words[1]), _byte(words[2], "status")
     return _reading(channel, kind, status, *value(words[3]))

@@ -46,7 +46,7 @@ class Trace:
 
     def left(self, count):
         """Bytes that stood in front of a client when it left."""
-        self._show("lost <-", "%d bytes of these, which the client left unread" % count)
+        self._show("lost <-", "%d bytes that a client left unread" % count)
 
     def gauge(self, line):
         """A line about gauges that the box took."""

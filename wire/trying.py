@@ -64,9 +64,9 @@ def attempt(command):
                 for part in conversation.stream, conversation.poll, conversation.refusal, conversation.change:
                     show(part, one)
                 show(conversation.sheet, one, two)
-    except Unexpected as fault:
+    except (Unexpected, KeyboardInterrupt) as fault:
         print()
-        tell(str(fault))
+        tell(str(fault) or "stopped")
         return 1
     print("\n\nAll as expected. ./box starts a box that stays.")
     return 0

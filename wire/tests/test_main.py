@@ -83,6 +83,12 @@ class LinkTest(unittest.TestCase):
         with main.linked(self.path, "/dev/null"):
             self.assertEqual(os.readlink(self.path), "/dev/null")
 
+    def test_one_that_leads_to_this_terminal_is_replaced(self):
+        os.symlink("/dev/null", self.path)
+        with main.linked(self.path, "/dev/null"):
+            self.assertEqual(os.readlink(self.path), "/dev/null")
+        self.assertFalse(os.path.lexists(self.path))
+
     def test_one_that_leads_somewhere_stays(self):
         os.symlink("/dev/null", self.path)
         with self.assertRaises(main.BadOption):

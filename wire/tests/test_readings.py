@@ -77,7 +77,7 @@ class FrameTest(unittest.TestCase):
 
     def test_what_is_left_blank_is_no_zero(self):
         for line in "1 CMR/APR 0", "1 CMR/APR", "1", "off", "1 CMR/APR  1E3", "CMR/APR 0 1E3":
-            with self.subTest(line), self.assertRaisesRegex(NotUnderstood, "neither four words"):
+            with self.subTest(line), self.assertRaisesRegex(NotUnderstood, "is no reading"):
                 frame(line)
         for line in "", "   ":
             with self.subTest(line), self.assertRaisesRegex(NotUnderstood, "an empty line"):

@@ -1,14 +1,9 @@
 """The box at work: host bytes, ticks and readings to the engine, and what it sends to the line."""
 
 import select
-import sys
 
 from wire import readings
-
-
-def tell(text):
-    """One line for the person who runs the box."""
-    print("box: " + text, file=sys.stderr, flush=True)
+from wire.trace import tell
 
 
 class Box:
@@ -50,7 +45,7 @@ class Box:
             if text.split() == ["help"]:
                 print(readings.HELP, flush=True)
                 return False
-            answer, _ = self._engine.ask(readings.frame(text))
+            answer, _ = self._engine.ask(readings.frame(text), readings.REASONS)
         except readings.NotUnderstood as fault:
             tell("%s; nothing changed (help tells what is understood)" % fault)
             return False

@@ -8,6 +8,7 @@ ETX, ENQ = b"\x03", b"\x05"
 ACK, NAK = b"\x06\r\n", b"\x15\r\n"
 # seconds: more than a box ever takes, and enough for what was on its way
 PATIENCE, QUIET = 5, 0.3
+GONE = "the line is gone"
 
 
 class Unexpected(Exception):
@@ -73,7 +74,7 @@ class Piped(Client):
         try:
             os.write(self._write, data)
         except OSError:
-            raise Unexpected("the line is gone")
+            raise Unexpected(GONE)
 
     def _more(self):
         """Bytes that are there to be read; none are, nor will be, where the other end has hung up."""
@@ -82,7 +83,7 @@ class Piped(Client):
         except OSError:
             more = b""
         if not more:
-            raise Unexpected("the line is gone")
+            raise Unexpected(GONE)
         return more
 
     def receive(self, patience=PATIENCE):

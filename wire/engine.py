@@ -19,21 +19,20 @@ class Engine:
     def __init__(self, command, model):
         # a group of its own: a Ctrl-C is for the box, which then ends its engine
         self._process = subprocess.Popen(
-            command, stdin=subprocess.PIPE, stdout=subprocess.PIPE, bufsize=0, start_new_session=True)
+            command, stdin=subprocess.PIPE, stdout=subprocess.PIPE, start_new_session=True)
         self.fd = self._process.stdout.fileno()
         self._read = b""
         try:
-            self._sent(FRESH + FRESH_MODEL[model])
+            self.ask(FRESH + FRESH_MODEL[model])
         except BaseException:
             self.close()
             raise
 
-    def ask(self, frame):
-        """The answer number and the bytes sent, for one frame."""
-        line = frame.hex().upper().encode() + b"\n"
+    def _line(self, frame):
+        """The output line for an input line."""
         try:
-            while line:
-                line = line[os.write(self._process.stdin.fileno(), line):]
+            # shorter than what a pipe takes in one piece
+            os.write(self._process.stdin.fileno(), frame + b"\n")
         except BrokenPipeError:
             raise self.died()
         while b"\n" not in self._read:
@@ -41,28 +40,28 @@ class Engine:
             if not more:
                 raise self.died()
             self._read += more
-        answer, self._read = self._read.split(b"\n", 1)
-        sent = bytes.fromhex(answer.decode())
-        return sent[0], sent[1:]
+        line, self._read = self._read.split(b"\n", 1)
+        return line
 
-    def _sent(self, frame):
-        """The bytes sent for a frame that no box refuses."""
-        answer, sent = self.ask(frame)
-        if answer != 0:
+    def ask(self, frame, refusals=()):
+        """The answer number and the bytes sent, for one frame that the box may refuse by these numbers alone."""
+        line = self._line(frame.hex().upper().encode())
+        answer, sent = int(line[:2], 16), bytes.fromhex(line[2:].decode())
+        if answer != 0 and answer not in refusals:
             raise EngineFault("the engine answers %02X to %s" % (answer, frame.hex().upper()))
-        return sent
+        return answer, sent
 
     def host(self, data):
         """What the box sends for host bytes, a message for each frame of them."""
         for at in range(0, len(data), HOST_BYTES):
-            yield self._sent(HOST + data[at:at + HOST_BYTES])
+            yield self.ask(HOST + data[at:at + HOST_BYTES])[1]
 
     def ticks(self, count):
         """The last line that so many ticks bring, or nothing."""
         last = b""
         while count > 0:
             some = min(count, MOST_TICKS)
-            sent = self._sent(TICKS + bytes([some]))
+            sent = self.ask(TICKS + bytes([some]))[1]
             last = sent[sent.rfind(b"\n", 0, -1) + 1:] or last
             count -= some
         return last

@@ -1,10 +1,12 @@
 """Where the lines about gauges come from: standard input or a FIFO."""
 
+import contextlib
 import os
 import stat
 import sys
 
 from wire.readings import LONGEST
+from wire.trace import tell
 
 
 class Gauges:
@@ -32,17 +34,20 @@ class Gauges:
         """The lines that have come, each with its end; only the last that ever comes can lack it."""
         try:
             data = os.read(self.fd, 4096)
+        except BlockingIOError:
+            # someone else was faster
+            return []
         except OSError:
             # a terminal that is gone
             data = b""
-        *whole, begun = (self._begun + data).split(b"\n")
-        found = [line + b"\n" for line in whole]
         if not data:
             self.ended()
-            found, begun = found + [begun] * bool(begun), b""
+            cut, self._begun = self._begun, b""
+            return [cut] if cut else []
+        *whole, begun = (self._begun + data).split(b"\n")
         # a line that is too long stays too long, with an end of CR LF too
         self._begun = begun[:LONGEST + 2]
-        return found
+        return [line + b"\n" for line in whole]
 
     def close(self):
         """Nothing of it is left behind."""
@@ -70,10 +75,17 @@ class Fifo(Gauges):
 
     def ended(self):
         """The last writer has left: the next one finds the FIFO open without a pause."""
-        fd, self.fd = self.fd, self._opened()
+        fd = self.fd
+        try:
+            self.fd = self._opened()
+        except OSError as fault:
+            self.fd = None
+            tell("%s: %s; no more lines about gauges can come" % (self._path, fault.strerror))
         os.close(fd)
 
     def close(self):
-        os.close(self.fd)
+        if self.fd is not None:
+            os.close(self.fd)
         if self._made:
-            os.unlink(self._path)
+            with contextlib.suppress(OSError):
+                os.unlink(self._path)

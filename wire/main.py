@@ -6,12 +6,12 @@ import os
 import signal
 import sys
 
-from wire.box import Box, tell
+from wire.box import Box
 from wire.clock import Clock
 from wire.engine import Engine, EngineFault
 from wire.gauges import Fifo, standard_input
 from wire.terminal import Terminal
-from wire.trace import Trace
+from wire.trace import Trace, tell
 from wire.trying import attempt
 
 SIGNALS = signal.SIGINT, signal.SIGTERM, signal.SIGHUP
@@ -64,8 +64,10 @@ def linked(path, name):
     try:
         yield
     finally:
+        # someone may have put another one there
         with contextlib.suppress(OSError):
-            os.unlink(path)
+            if os.readlink(path) == name:
+                os.unlink(path)
 
 
 def gauges(path):
@@ -84,10 +86,10 @@ def serve(chosen):
         terminal = ended.enter_context(contextlib.closing(Terminal()))
         if chosen.link is not None:
             ended.enter_context(linked(chosen.link, terminal.name))
-        name = chosen.link or terminal.name
+        name, gauge_lines = chosen.link or terminal.name, chosen.gauges or "here"
         print(name)
-        print("A TPG %s: open it as a serial port, as with picocom %s; "
-              "here type help for the gauges, quit to end." % (chosen.model, name), flush=True)
+        print("A TPG %s: open it as a serial port, as with picocom %s; lines about gauges go to %s, help and quit too."
+              % (chosen.model, name, gauge_lines), flush=True)
         Box(engine, terminal, Clock(), Trace(sys.stdout if chosen.trace else None)).run(source)
 
 
@@ -98,7 +100,7 @@ def stop(*_):
     raise KeyboardInterrupt
 
 
-def listen():
+def heed_signals():
     """Signals end the box, unless it was started to ignore them."""
     for number in SIGNALS:
         if signal.getsignal(number) != signal.SIG_IGN:
@@ -106,10 +108,10 @@ def listen():
 
 
 def main(words):
-    """The status of the command: 0 when it was stopped, 1 when the engine failed, 2 for a bad option."""
+    """The status of the command: 0 when it was stopped, 1 when it could not go on, 2 for a bad option."""
     try:
         chosen = options(words)
-        listen()
+        heed_signals()
         if chosen.attempt:
             return attempt(os.path.join(ROOT, "box"))
         if chosen.link is not None:
@@ -124,7 +126,7 @@ def main(words):
     except BadOption as fault:
         tell(str(fault))
         return 2
-    except EngineFault as fault:
+    except (EngineFault, OSError) as fault:
         tell(str(fault))
         return 1
     return 0

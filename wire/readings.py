@@ -10,10 +10,11 @@ NO_SENSOR, STATUS_NO_SENSOR = 6, 5
 DIGITS = 5
 
 HELP = """\
-CHANNEL KIND STATUS VALUE   a reading: channel 1 or 2, kind by name or number, status 0 to 6, value in hPa
-                            (1 CMR/APR 0 1.013E3); kinds 0 to 7: %s
+CHANNEL KIND STATUS VALUE   a reading, its value in hPa (1 CMR/APR 0 1.013E3)
+  kinds, by name or number from 0 on: %s
+  status: 0 good data, 1 underrange, 2 overrange, 3 sensor error, 4 sensor off, 5 no sensor, 6 identification error
 CHANNEL off                 no sensor on that channel (2 off)
-cycle                       a power cycle
+cycle                       a power cycle: readings are gone, and settings that were not saved
 help                        this text
 quit                        the box ends""" % ", ".join(KINDS)
 
@@ -43,7 +44,7 @@ def text(line):
 
 def _byte(word, what):
     """A whole number that fits a byte of a frame; whether the box has it, the box decides."""
-    if not re.fullmatch("[0-9]{1,3}", word) or int(word) > 255:
+    if not re.fullmatch("[0-9]+", word) or int(word) > 255:
         raise NotUnderstood("%s '%s' is no whole number from 0 to 255" % (what, word))
     return int(word)
 
@@ -90,6 +91,6 @@ def frame(line):
     if not words:
         raise NotUnderstood("an empty line")
     if len(words) != 4:
-        raise NotUnderstood("'%s' is no reading, which has a channel, a kind, a status and a value" % line.strip())
+        raise NotUnderstood("'%s' is no reading, which has a channel, a kind, a status and a value" % line)
     channel, kind, status = _byte(words[0], "channel"), _kind(words[1]), _byte(words[2], "status")
     return _reading(channel, kind, status, *value(words[3]))

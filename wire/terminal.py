@@ -52,7 +52,7 @@ class Terminal:
         return sum(events for _, events in poll.poll(0))
 
     def look(self):
-        """Sees whether a client has the line open; the number of bytes that one which left has not read."""
+        """Sees whether a client has the line open; the number of bytes, at least, that one which left has not read."""
         # one that left counts as long as not all of its bytes are read
         self.is_open = self._events() != select.POLLHUP
         if self.is_open:
@@ -65,10 +65,8 @@ class Terminal:
         """Bytes that a client sent; none where it has left, which is no error."""
         try:
             return os.read(self.fd, 4096)
-        except BlockingIOError:
-            return b""
         except OSError as fault:
-            if fault.errno != errno.EIO:
+            if fault.errno not in (errno.EAGAIN, errno.EIO):
                 raise
             return b""
 
@@ -97,7 +95,7 @@ class Terminal:
 
     def stream(self, line):
         """Writes a line of the stream, unless too many of them wait: replies must find room."""
-        return self.is_open and self._unread() < STREAM_WAITS and self.write(line)
+        return self._unread() < STREAM_WAITS and self.write(line)
 
     def close(self):
         """The name is gone, and a client that has it open sees the line hung up."""

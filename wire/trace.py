@@ -1,6 +1,7 @@
-"""The wire shown for people: time, direction, control bytes by name."""
+"""What people are shown: a line that tells them something, and the wire with its control bytes by name."""
 
 import datetime
+import sys
 
 CONTROL = (
     "NUL SOH STX ETX EOT ENQ ACK BEL BS HT LF VT FF CR SO SI "
@@ -22,6 +23,11 @@ def _name(byte):
 def named(data):
     """Characters as they are, control bytes by name as <CR>, brackets and all above 127 in hexadecimal as <0x3C>."""
     return "".join(map(_name, data))
+
+
+def tell(text):
+    """One line for the person who runs the box."""
+    print("box: " + text, file=sys.stderr, flush=True)
 
 
 class Trace:
@@ -46,7 +52,7 @@ class Trace:
 
     def left(self, count):
         """Bytes that stood in front of a client when it left."""
-        self._show("lost <-", "%d bytes that a client left unread" % count)
+        self._show("lost <-", "%d bytes or more that a client left unread" % count)
 
     def gauge(self, line):
         """A line about gauges that the box took."""

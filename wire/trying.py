@@ -4,9 +4,8 @@ import contextlib
 import subprocess
 
 from wire import conversation
-from wire.box import tell
 from wire.client import ENQ, Port, Unexpected
-from wire.trace import named
+from wire.trace import named, tell
 
 
 def told(box):

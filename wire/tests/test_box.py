@@ -2,9 +2,14 @@
 
 import contextlib
 import io
+import os
 import unittest
+from unittest import mock
 
 from wire.box import Box
+from wire.engine import EngineFault
+from wire.gauges import Gauges
+from wire.readings import REASONS
 from wire.trace import Trace
 
 
@@ -50,7 +55,13 @@ class BoxTest(unittest.TestCase):
         self.box.hear()
         self.assertEqual(self.engine.asked, [("host", b"PRX\r\x05")])
         self.assertEqual(self.terminal.asked, [("read",), ("write", b"\x06\r\n"), ("write", b"0\r\n")])
+        self.assertIn("host ->  PRX<CR><ENQ>", self.shown.getvalue())
         self.assertEqual(self.shown.getvalue().count("lost"), 2)
+
+    def test_nothing_heard_and_nothing_left_are_not_shown(self):
+        self.box.hear()
+        self.box.look()
+        self.assertEqual(self.shown.getvalue(), "")
 
     def test_what_a_client_left_unread_is_shown(self):
         self.terminal.answers["look"] = 12
@@ -59,7 +70,7 @@ class BoxTest(unittest.TestCase):
 
     def test_a_reading_that_is_taken(self):
         self.assertEqual(self.gauge(b"2 off\n"), (False, ""))
-        self.assertEqual(self.engine.asked, [("ask", bytes.fromhex("020206050000000000"))])
+        self.assertEqual(self.engine.asked, [("ask", bytes.fromhex("020206050000000000"), REASONS)])
         self.assertIn("2 off", self.shown.getvalue())
 
     def test_a_reading_that_the_box_refuses_is_told(self):
@@ -81,7 +92,80 @@ class BoxTest(unittest.TestCase):
 
     def test_help_and_quit(self):
         with contextlib.redirect_stdout(io.StringIO()) as helped:
-            self.assertEqual(self.gauge(b"help\n"), (False, ""))
+            self.assertEqual(self.gauge(b" help \n"), (False, ""))
         self.assertIn("cycle", helped.getvalue())
         self.assertEqual(self.gauge(b" quit \n"), (True, ""))
         self.assertEqual(self.engine.asked, [])
+
+
+class Rounds:
+    """A clock that does one thing before each round, and is never waited for."""
+
+    def __init__(self, *things):
+        self._things = list(things)
+
+    def wait(self):
+        self._things.pop(0)()
+        return 0
+
+    def due(self):
+        return 1
+
+
+class RunTest(unittest.TestCase):
+    def setUp(self):
+        self.engine = Stand(ticks=b"", host=[], ask=(0, b""), died=EngineFault("ended"))
+        self.terminal = Stand(read=b"", look=0)
+        self.engine.fd, self.engine_end = os.pipe()
+        self.terminal.fd, self.client = os.pipe()
+        self.terminal.is_open, self.terminal.waits = True, False
+        read, self.writer = os.pipe()
+        self.gauges = Gauges(read)
+        self.open = {self.engine.fd, self.engine_end, self.terminal.fd, self.client, read, self.writer}
+        self.addCleanup(lambda: [os.close(fd) for fd in self.open])
+
+    def write(self, data):
+        return lambda: os.write(self.writer, data)
+
+    def run_box(self, *things):
+        Box(self.engine, self.terminal, Rounds(*things), Trace()).run(self.gauges)
+
+    def test_each_round_ticks_and_looks_until_quit(self):
+        self.run_box(self.write(b"1 off\n"), bool, self.write(b"quit\ncycle\n"))
+        asked = [name for name, *_ in self.engine.asked]
+        self.assertEqual(asked, ["ticks", "ask", "ticks", "ticks"])
+        self.assertEqual(self.terminal.asked, [("look",)] * 3)
+
+    def test_what_comes_over_the_line_is_heard(self):
+        self.run_box(lambda: os.write(self.client, b"x"), self.write(b"quit\n"))
+        self.assertEqual(self.terminal.asked[:3], [("go_on",), ("read",), ("look",)])
+
+    def test_a_line_that_is_not_open_is_not_waited_for(self):
+        self.terminal.is_open = False
+        self.run_box(lambda: os.write(self.client, b"x"), self.write(b"quit\n"))
+        self.assertEqual(self.terminal.asked, [("look",)] * 2)
+
+    def test_room_is_waited_for_while_a_message_waits_and_only_then(self):
+        # the end of a pipe that can always be written to
+        self.terminal.fd, self.terminal.waits = self.client, True
+        self.run_box(lambda: setattr(self.terminal, "waits", True), lambda: setattr(self.terminal, "waits", False),
+                     self.write(b"quit\n"))
+        self.assertEqual(self.terminal.asked.count(("go_on",)), 2)
+
+    def test_gauges_that_may_not_be_read_are_not(self):
+        with mock.patch.object(self.gauges, "ready", side_effect=[False, True]):
+            self.run_box(self.write(b"quit\n"), bool)
+        self.assertEqual(len(self.engine.asked), 2)
+
+    def test_the_engine_s_end_ends_it(self):
+        def end():
+            self.open.remove(self.engine_end)
+            os.close(self.engine_end)
+        with self.assertRaisesRegex(EngineFault, "ended"):
+            self.run_box(end, self.write(b"quit\n"))
+
+    def test_it_waits_up_to_the_next_tick(self):
+        with mock.patch("select.poll") as poll:
+            poll.return_value.poll.return_value = []
+            Box(self.engine, self.terminal, Stand(wait=99_500_000), Trace())._ready(self.gauges)
+        poll.return_value.poll.assert_called_once_with(99.5)

@@ -60,3 +60,7 @@ class ClockTest(unittest.TestCase):
         with mock.patch("time.clock_gettime_ns", return_value=7) as asked:
             self.assertEqual(clock.boottime(), 7)
         asked.assert_called_once_with(time.CLOCK_BOOTTIME)
+
+    def test_it_is_the_one_that_is_asked(self):
+        with mock.patch("time.clock_gettime_ns", side_effect=[0, 700 * MS]):
+            self.assertEqual(clock.Clock().due(), 7)

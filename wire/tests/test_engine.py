@@ -1,14 +1,17 @@
 """Frames over pipes, with a program in the engine's place that answers as a test wants."""
 
+import os
+import select
 import sys
 import unittest
+from unittest import mock
 
 from wire.engine import Engine, EngineFault
 
 # answers a fresh box with 00, then each frame with 00 and the frame itself
 ECHO = "import sys\nfor line in sys.stdin: print('00' + line.strip() * (line[:2] != '04'), flush=True)"
-# answers ticks with two lines, and the last 45 of three hundred with none
-LINES = "import sys\nfor line in sys.stdin: print({'03FF': '00410D0A420D0A'}.get(line.strip(), '00'), flush=True)"
+# answers ticks with three lines, and the last 45 of three hundred with none
+LINES = "import sys\nfor line in sys.stdin: print({'03FF': '00410D0A420D0A430D0A'}.get(line.strip(), '00'), flush=True)"
 
 
 class EngineTest(unittest.TestCase):
@@ -36,20 +39,40 @@ class EngineTest(unittest.TestCase):
 
     def test_of_many_lines_the_last(self):
         engine = self.engine(LINES)
-        self.assertEqual(engine.ticks(255), b"B\r\n")
-        self.assertEqual(engine.ticks(300), b"B\r\n")
+        self.assertEqual(engine.ticks(255), b"C\r\n")
+        self.assertEqual(engine.ticks(300), b"C\r\n")
         self.assertEqual(engine.ticks(45), b"")
 
     def test_an_answer_to_a_reading(self):
         engine = self.engine("input(); print('00', flush=True); input(); print('05', flush=True)")
-        self.assertEqual(engine.ask(b"\x02"), (5, b""))
+        self.assertEqual(engine.ask(b"\x02", {4, 5}), (5, b""))
 
     def test_a_refusal_that_cannot_be(self):
-        with self.assertRaisesRegex(EngineFault, "answers FF to 0301"):
-            self.engine("input(); print('00', flush=True); input(); print('FF', flush=True)").ticks(1)
+        for answer in "01", "04", "FF":
+            with self.subTest(answer), self.assertRaisesRegex(EngineFault, "answers %s to 0301" % answer):
+                self.engine("input(); print('00', flush=True); input(); print('%s', flush=True)" % answer).ticks(1)
 
     def test_its_death_is_told(self):
         with self.assertRaisesRegex(EngineFault, "ended .status 3"):
             self.engine("raise SystemExit(3)")
         with self.assertRaisesRegex(EngineFault, "SIGKILL"):
             self.engine("import os; input(); print('00', flush=True); os.kill(os.getpid(), 9)").ticks(1)
+
+    def test_it_ends_before_it_is_asked(self):
+        engine = self.engine("input(); print('00', flush=True)")
+        select.select([engine.fd], [], [], 5)
+        with self.assertRaisesRegex(EngineFault, "status 0"):
+            engine.ticks(1)
+
+    def test_what_it_started_ends_with_it(self):
+        engine = self.engine("import os; os.system('read line; echo 00; sleep 9')")
+        output = os.dup(engine.fd)
+        self.addCleanup(os.close, output)
+        engine.close()
+        self.assertTrue(select.select([output], [], [], 5)[0])
+
+    def test_one_that_does_not_start_is_closed(self):
+        with mock.patch.object(Engine, "close", autospec=True, side_effect=Engine.close) as closed:
+            with self.assertRaises(EngineFault):
+                self.engine("print('02')")
+        closed.assert_called_once()

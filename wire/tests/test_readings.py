@@ -67,12 +67,16 @@ class FrameTest(unittest.TestCase):
     def test_power_cycle(self):
         self.assertEqual(frame("cycle").hex(), "05")
 
+    def test_zeros_before_a_number_do_not_change_it(self):
+        self.assertEqual(frame("0001 05 000 1"), frame("1 5 0 1"))
+
     def test_what_the_box_decides_reaches_it(self):
         self.assertEqual(frame("0 255 9 1E21").hex(), "0200" "ff09" "00" "002710" "15")
 
     def test_numbers_that_no_byte_holds(self):
-        for line, what in {"256 off": "channel", "1 256 0 1": "kind", "1 0 261 1": "status", "1000 0 0 1": "channel"}.items():
-            with self.subTest(line), self.assertRaisesRegex(NotUnderstood, what + " '.*' is no whole number from 0 to 255"):
+        lines = {"256 off": "channel", "1 256 0 1": "kind", "1 0 261 1": "status", "1000 0 0 1": "channel"}
+        for line, what in lines.items():
+            with self.subTest(line), self.assertRaisesRegex(NotUnderstood, what + " '.*' is no whole number from 0 to"):
                 frame(line)
 
     def test_what_is_left_blank_is_no_zero(self):
@@ -84,7 +88,9 @@ class FrameTest(unittest.TestCase):
                 frame(line)
 
     def test_other_lines(self):
-        for line in "1 CMR 0 1", "1 - 0 1", "-1 off", "+1 off", "1 IKR -1 1", "1 IKR 0 x", "1 IKR 0 1 1", "cycle 1", "Off 1", "1 OFF":
+        lines = ("1 CMR 0 1", "1 - 0 1", "-1 off", "+1 off", "1x off", "1 off 1", "Off 1", "1 OFF", "1 IKR -1 1",
+                 "1 IKR 0x 1", "1 IKR 0 x", "1 IKR 0 1 1", "cycle 1")
+        for line in lines:
             with self.subTest(line), self.assertRaises(NotUnderstood):
                 frame(line)
 
@@ -113,3 +119,10 @@ class TextTest(unittest.TestCase):
     def test_help_names_every_word(self):
         for word in "off", "cycle", "help", "quit", "CMR/APR", "hPa":
             self.assertIn(word, HELP)
+
+    def test_a_kind_that_is_none_is_told_the_names(self):
+        with self.assertRaisesRegex(NotUnderstood, "kind 'CMR' is none of TPR/PCR, .*noid"):
+            frame("1 CMR 0 1")
+
+    def test_one_cr_belongs_to_the_end(self):
+        self.assertEqual(text(b"cycle\r\r\n"), "cycle<CR>")

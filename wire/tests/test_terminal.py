@@ -7,6 +7,7 @@ import select
 import termios
 import time
 import unittest
+from unittest import mock
 
 from wire.terminal import STREAM_WAITS, Terminal
 
@@ -66,7 +67,7 @@ class TerminalTest(unittest.TestCase):
         mode[0] = termios.IGNCR | termios.INLCR | termios.ISTRIP | termios.IXON
         mode[1] = termios.OPOST | termios.ONLCR
         mode[3] = termios.ECHO | termios.ICANON | termios.ISIG
-        mode[6][termios.VMIN], mode[6][termios.VTIME] = 0, 0
+        mode[6][termios.VMIN], mode[6][termios.VTIME] = 0, 20
         termios.tcsetattr(client, termios.TCSANOW, mode)
         os.close(client)
         self.terminal.look()
@@ -77,6 +78,7 @@ class TerminalTest(unittest.TestCase):
         os.close(client)
 
     def test_no_client_reads_what_was_said_to_no_one(self):
+        self.assertFalse(self.terminal.write(b"old\r\n"))
         self.terminal.look()
         self.assertFalse(self.terminal.is_open)
         self.assertFalse(self.terminal.write(b"old\r\n"))
@@ -92,6 +94,7 @@ class TerminalTest(unittest.TestCase):
         os.close(client)
         self.assertEqual(self.terminal.look(), 5)
         self.assertEqual(self.terminal.look(), 0)
+        self.assertFalse(self.terminal.is_open)
         client = self.client()
         self.assertTrue(nothing_for(client))
         os.close(client)
@@ -135,4 +138,37 @@ class TerminalTest(unittest.TestCase):
             self.terminal.go_on()
         self.assertEqual(read + received(client, count * len(message) - len(read)), message * count)
         self.assertTrue(self.terminal.write(message))
+        os.close(client)
+
+    def test_a_message_without_room_is_lost_whole(self):
+        client = self.client()
+        with mock.patch("os.write", side_effect=BlockingIOError):
+            self.assertFalse(self.terminal.write(b"0\r\n"))
+        self.assertFalse(self.terminal.waits)
+        os.close(client)
+
+    def test_a_message_that_was_begun_is_lost_with_its_client(self):
+        client = self.client()
+        with mock.patch("os.write", return_value=1):
+            self.assertTrue(self.terminal.write(b"0\r\n"))
+        os.close(client)
+        self.assertEqual(self.terminal.look(), 2)
+        self.assertFalse(self.terminal.waits)
+
+    def test_a_client_that_says_nothing_is_no_error(self):
+        client = self.client()
+        self.assertEqual(self.terminal.read(), b"")
+        os.close(client)
+
+    def test_a_line_that_a_client_holds_alone_is_written_to(self):
+        client = self.client()
+        with mock.patch("os.open", side_effect=OSError):
+            self.assertTrue(self.terminal.stream(b"0\r\n"))
+        os.close(client)
+
+    def test_a_client_sees_the_end(self):
+        terminal = Terminal()
+        client = os.open(terminal.name, os.O_RDWR | os.O_NOCTTY | os.O_NONBLOCK)
+        terminal.close()
+        self.assertEqual(os.read(client, 1), b"")
         os.close(client)

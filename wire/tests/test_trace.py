@@ -1,5 +1,6 @@
 """The tracer's names, and its lines."""
 
+import contextlib
 import datetime
 import io
 import unittest
@@ -14,11 +15,10 @@ class NamedTest(unittest.TestCase):
         self.assertEqual(named(b"\x03PRX\r\x05"), "<ETX>PRX<CR><ENQ>")
 
     def test_every_control_byte_has_a_name_of_its_own(self):
-        names = [named(bytes([byte])) for byte in [*range(32), 127]]
-        self.assertEqual(len(set(names)), 33)
-        for byte, name in {0: "NUL", 3: "ETX", 5: "ENQ", 6: "ACK", 8: "BS", 9: "HT", 10: "LF", 13: "CR",
-                           17: "DC1", 19: "DC3", 21: "NAK", 27: "ESC", 31: "US", 127: "DEL"}.items():
-            self.assertEqual(named(bytes([byte])), "<%s>" % name)
+        self.assertEqual(
+            named(bytes([*range(32), 127])),
+            "<NUL><SOH><STX><ETX><EOT><ENQ><ACK><BEL><BS><HT><LF><VT><FF><CR><SO><SI>"
+            "<DLE><DC1><DC2><DC3><DC4><NAK><SYN><ETB><CAN><EM><SUB><ESC><FS><GS><RS><US><DEL>")
 
     def test_characters_are_themselves(self):
         for byte in set(range(32, 127)) - set(b"<>"):
@@ -51,4 +51,11 @@ class TraceTest(unittest.TestCase):
         self.assertIn("lost <-  7 bytes", self.shown(lambda t: t.left(7)))
 
     def test_without_an_output_it_is_silent(self):
-        Trace().heard(b"PRX\r")
+        with contextlib.redirect_stdout(io.StringIO()) as shown:
+            Trace().heard(b"PRX\r")
+        self.assertEqual(shown.getvalue(), "")
+
+    def test_a_line_is_shown_at_once(self):
+        output = io.TextIOWrapper(io.BytesIO())
+        Trace(output).heard(b"PRX\r")
+        self.assertIn(b"PRX", output.buffer.getvalue())

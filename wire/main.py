@@ -86,9 +86,10 @@ def serve(chosen):
         terminal = ended.enter_context(contextlib.closing(Terminal()))
         if chosen.link is not None:
             ended.enter_context(linked(chosen.link, terminal.name))
-        name, gauge_lines = chosen.link or terminal.name, chosen.gauges or "here"
+        name = chosen.link or terminal.name
+        gauge_lines = "to " + chosen.gauges if chosen.gauges else "here"
         print(name)
-        print("A TPG %s: open it as a serial port, as with picocom %s; lines about gauges go to %s, help and quit too."
+        print("A TPG %s: open it as a serial port, as with picocom %s; lines about gauges go %s, help and quit too."
               % (chosen.model, name, gauge_lines), flush=True)
         Box(engine, terminal, Clock(), Trace(sys.stdout if chosen.trace else None)).run(source)
 

@@ -142,7 +142,7 @@ class ServeTest(unittest.TestCase):
         status, shown, told = self.served("--model", "361")
         name, advice = shown.splitlines()
         self.assertEqual((status, name, told), (0, "/dev/null", ""))
-        self.assertRegex(advice, "TPG 361.*picocom /dev/null.* here")
+        self.assertRegex(advice, "TPG 361.*picocom /dev/null.* go here,")
         self.assertEqual(self.engine.call_args[0][1], "361")
         self.heed.assert_called_once_with()
 
@@ -152,7 +152,7 @@ class ServeTest(unittest.TestCase):
         self.box.return_value.run.side_effect = lambda _: there.extend(os.listdir(self.place))
         name, advice = self.served("--link", link, "--gauges", fifo)[1].splitlines()
         self.assertEqual(name, link)
-        self.assertRegex(advice, "picocom %s.* to %s" % (link, fifo))
+        self.assertRegex(advice, "picocom %s.* go to %s," % (link, fifo))
         self.assertEqual(sorted(there), ["fifo", "link"])
         self.assertEqual(os.listdir(self.place), [])
 

@@ -31,6 +31,9 @@ static const uint8_t digit_value[256] = {
 
 static const char digit_name[] = "0123456789ABCDEF";
 
+/* The model that a byte names; 0 is none. */
+static const uint16_t model_number[256] = { [1] = 361, [2] = 362, [3] = 262 };
+
 static unsigned run_host_bytes(struct bench *bench, size_t length, size_t *sent)
 {
     size_t taken;
@@ -68,7 +71,7 @@ static unsigned run_ticks(struct bench *bench, size_t *sent)
 static unsigned run_fresh(struct bench *bench)
 {
     struct box fresh;
-    unsigned answer = box_fresh(&fresh, 360u + bench->frame[1], 0);
+    unsigned answer = box_fresh(&fresh, model_number[bench->frame[1]], 0);
 
     if (answer == BOX_DONE)
         bench->box = fresh;

@@ -8,67 +8,102 @@ enum { ETX = 3, ENQ = 5, ACK = 6, LF = 10, CR = 13, NAK = 21, DEL = 127 };
 /* Digits of the error word; 1000 never arises here. */
 enum { NO_FAULT = 0, SYNTAX = 1, INADMISSIBLE = 2, NO_HARDWARE = 4 };
 
-enum { STATUS_OK = 0, STATUS_NO_SENSOR = 5, STATUS_NO_ID = 6, KIND_NO_SENSOR = 6, KIND_NO_ID = 7 };
+enum { STATUS_OK = 0, STATUS_NO_SENSOR = 5, STATUS_NO_ID = 6 };
+
+enum { KIND_NO_SENSOR = 6, KIND_NO_ID = 7, KINDS = 9 };
 
 enum { UNIT_MBAR, UNIT_TORR, UNIT_PA, UNIT_MICRON, UNIT_HPA };
 
-enum { ASSIGNED_ON = 1, ASSIGNED_CHANNEL_1 = 2 };
+enum { ASSIGNED_ON = 1 };
 
-/* The sheet comes first and in its order, so that a sheet mnemonic is also its cell. */
+/* A 361 and a 362 differ only in their channels and their names; a 262 is of another family. */
+enum family { TPG_36X, TPG_26X, FAMILIES };
+
+/* Settings come first and in the order of the sheets, so that one's mnemonic is also its cell. */
 enum mnemonic {
     UNI, FIL, CAL, DCD, SP1, SP2, SP3, SP4, ERA, EVA, FMT, LNG, NAD, PRE, PRO, PUC, DCS,
-    CF1, CF2, SPS, PR1, PR2, PRX, TID, AYT, ERR, COM, SAV,
+    DIC, SCT, WDT, TLC, LOC,
+    CF1, CF2, SPS, PR1, PR2, PRX, TID, AYT, PNR, ERR, COM, SAV,
     NONE
 };
 
 enum form { WHOLE, FACTOR, THRESHOLD };
 
-enum { PER_CHANNEL = 255, FIELDS_MAX = 3 };
+enum { PER_CHANNEL = 255, UNKNOWN = 254, FIELDS_MAX = 3 };
 
-struct rule {
-    char name[4];
+/* What a family takes in a mnemonic's fields, and what it begins with. */
+struct limits {
     uint8_t fields;             /* how many a line with fields must have */
-    uint8_t form;               /* of the first field, and of a channel's */
-    uint8_t needs_channel_2;    /* the value that does, 0 when none */
     uint16_t low, high;
     uint16_t preset;
 };
 
+struct rule {
+    char name[4];
+    uint8_t form;               /* of the first field, and of a channel's */
+    uint8_t needs_channel_2;    /* the value that does, 0 when none */
+    struct limits limits[FAMILIES];
+};
+
+/* A setting that a family lacks has its default there too. */
 static const struct rule rules[NONE] = {
-    [UNI] = { "UNI", 1, WHOLE, 0, 0, 4, UNIT_HPA },
-    [FIL] = { "FIL", PER_CHANNEL, WHOLE, 0, 0, 3, 2 },
-    [CAL] = { "CAL", PER_CHANNEL, FACTOR, 0, 100, 10000, 1000 },
-    [DCD] = { "DCD", PER_CHANNEL, WHOLE, 0, 0, 4, 0 },
-    [SP1] = { "SP1", 3, WHOLE, 3, 0, 3, 0 },
-    [SP2] = { "SP2", 3, WHOLE, 3, 0, 3, 0 },
-    [SP3] = { "SP3", 3, WHOLE, 3, 0, 3, 0 },
-    [SP4] = { "SP4", 3, WHOLE, 3, 0, 3, 0 },
-    [ERA] = { "ERA", 1, WHOLE, 3, 0, 3, 0 },
-    [EVA] = { "EVA", 1, WHOLE, 0, 0, 1, 0 },
-    [FMT] = { "FMT", 1, WHOLE, 0, 0, 1, 0 },
-    [LNG] = { "LNG", 1, WHOLE, 0, 0, 2, 0 },
-    [NAD] = { "NAD", 1, WHOLE, 0, 1, 24, 1 },
-    [PRE] = { "PRE", 1, WHOLE, 0, 0, 1, 0 },
-    [PRO] = { "PRO", 1, WHOLE, 0, 0, 2, 0 },
-    [PUC] = { "PUC", 1, WHOLE, 0, 0, 1, 0 },
-    [DCS] = { "DCS", 1, WHOLE, 0, 0, 6, 0 },
-    [CF1] = { "CF1", 1, FACTOR, 0, 100, 10000, 0 },
-    [CF2] = { "CF2", 1, FACTOR, 0, 100, 10000, 0 },
-    [SPS] = { "SPS", 0, WHOLE, 0, 0, 0, 0 },
-    [PR1] = { "PR1", 0, WHOLE, 0, 0, 0, 0 },
-    [PR2] = { "PR2", 0, WHOLE, 0, 0, 0, 0 },
-    [PRX] = { "PRX", 0, WHOLE, 0, 0, 0, 0 },
-    [TID] = { "TID", 0, WHOLE, 0, 0, 0, 0 },
-    [AYT] = { "AYT", 0, WHOLE, 0, 0, 0, 0 },
-    [ERR] = { "ERR", 0, WHOLE, 0, 0, 0, 0 },
-    [COM] = { "COM", 1, WHOLE, 0, 0, 2, 1 },
-    [SAV] = { "SAV", 1, WHOLE, 0, 0, 1, 0 }
+    [UNI] = { "UNI", WHOLE, 0, { { 1, 0, 4, UNIT_HPA }, { 1, 0, 2, UNIT_MBAR } } },
+    [FIL] = { "FIL", WHOLE, 0, { { PER_CHANNEL, 0, 3, 2 }, { PER_CHANNEL, 0, 2, 1 } } },
+    [CAL] = { "CAL", FACTOR, 0,
+              { { PER_CHANNEL, 100, 10000, 1000 }, { PER_CHANNEL, 100, 9990, 1000 } } },
+    [DCD] = { "DCD", WHOLE, 0, { { PER_CHANNEL, 0, 4, 0 }, { 1, 2, 3, 2 } } },
+    [SP1] = { "SP1", WHOLE, 3, { { 3, 0, 3, 0 }, { 3, 0, 1, 0 } } },
+    [SP2] = { "SP2", WHOLE, 3, { { 3, 0, 3, 0 }, { 3, 0, 1, 0 } } },
+    [SP3] = { "SP3", WHOLE, 3, { { 3, 0, 3, 0 }, { 3, 0, 1, 0 } } },
+    [SP4] = { "SP4", WHOLE, 3, { { 3, 0, 3, 0 }, { 3, 0, 1, 0 } } },
+    [ERA] = { "ERA", WHOLE, 3, { { 1, 0, 3, 0 }, { UNKNOWN, 0, 0, 0 } } },
+    [EVA] = { "EVA", WHOLE, 0, { { 1, 0, 1, 0 }, { UNKNOWN, 0, 0, 0 } } },
+    [FMT] = { "FMT", WHOLE, 0, { { 1, 0, 1, 0 }, { UNKNOWN, 0, 0, 0 } } },
+    [LNG] = { "LNG", WHOLE, 0, { { 1, 0, 2, 0 }, { UNKNOWN, 0, 0, 0 } } },
+    [NAD] = { "NAD", WHOLE, 0, { { 1, 1, 24, 1 }, { UNKNOWN, 0, 0, 1 } } },
+    [PRE] = { "PRE", WHOLE, 0, { { 1, 0, 1, 0 }, { UNKNOWN, 0, 0, 0 } } },
+    [PRO] = { "PRO", WHOLE, 0, { { 1, 0, 2, 0 }, { UNKNOWN, 0, 0, 0 } } },
+    [PUC] = { "PUC", WHOLE, 0, { { 1, 0, 1, 0 }, { PER_CHANNEL, 0, 1, 0 } } },
+    [DCS] = { "DCS", WHOLE, 0, { { 1, 0, 6, 0 }, { UNKNOWN, 0, 0, 0 } } },
+    [DIC] = { "DIC", WHOLE, 0, { { UNKNOWN, 0, 0, 0 }, { 1, 0, 1, 0 } } },
+    [SCT] = { "SCT", WHOLE, 0, { { UNKNOWN, 0, 0, 0 }, { 1, 0, 1, 0 } } },
+    [WDT] = { "WDT", WHOLE, 0, { { UNKNOWN, 0, 0, 1 }, { 1, 0, 1, 1 } } },
+    [TLC] = { "TLC", WHOLE, 0, { { UNKNOWN, 0, 0, 0 }, { 1, 0, 1, 0 } } },
+    [LOC] = { "LOC", WHOLE, 0, { { UNKNOWN, 0, 0, 0 }, { 1, 0, 1, 0 } } },
+    [CF1] = { "CF1", FACTOR, 0, { { 1, 100, 10000, 0 }, { UNKNOWN, 0, 0, 0 } } },
+    [CF2] = { "CF2", FACTOR, 0, { { 1, 100, 10000, 0 }, { UNKNOWN, 0, 0, 0 } } },
+    [SPS] = { "SPS", WHOLE, 0, { { 0, 0, 0, 0 }, { 0, 0, 0, 0 } } },
+    [PR1] = { "PR1", WHOLE, 0, { { 0, 0, 0, 0 }, { 0, 0, 0, 0 } } },
+    [PR2] = { "PR2", WHOLE, 0, { { 0, 0, 0, 0 }, { 0, 0, 0, 0 } } },
+    [PRX] = { "PRX", WHOLE, 0, { { 0, 0, 0, 0 }, { 0, 0, 0, 0 } } },
+    [TID] = { "TID", WHOLE, 0, { { 0, 0, 0, 0 }, { 0, 0, 0, 0 } } },
+    [AYT] = { "AYT", WHOLE, 0, { { 0, 0, 0, 0 }, { UNKNOWN, 0, 0, 0 } } },
+    [PNR] = { "PNR", WHOLE, 0, { { UNKNOWN, 0, 0, 0 }, { 0, 0, 0, 0 } } },
+    [ERR] = { "ERR", WHOLE, 0, { { 0, 0, 0, 0 }, { 0, 0, 0, 0 } } },
+    [COM] = { "COM", WHOLE, 0, { { 1, 0, 2, 1 }, { 1, 0, 2, 1 } } },
+    [SAV] = { "SAV", WHOLE, 0, { { 1, 0, 1, 0 }, { 1, 0, 1, 0 } } }
+};
+
+struct box_model {
+    uint16_t number;
+    uint8_t channels;
+    uint8_t family;
+    uint8_t channel_1;          /* the assignment to it; those below are off and on */
+    const char *identity;       /* how AYT begins, where it is known */
+};
+
+static const struct box_model models[] = {
+    { 361, 1, TPG_36X, 2, "TPG361,PTG28040," },
+    { 362, 2, TPG_36X, 2, "TPG362,PTG28290," },
+    { 262, 2, TPG_26X, 0, NULL }
 };
 
 static const uint16_t stream_interval[] = { 1, 10, 600 };
 
-static const char *const kind_name[] = {
-    "TPR/PCR", "IKR", "PKR", "PBR", "IMR", "CMR/APR", "noSEn", "noid"
+/* A kind without a name is not of the family. */
+static const char *const kind_name[FAMILIES][KINDS] = {
+    [TPG_36X] = { "TPR/PCR", "IKR", "PKR", "PBR", "IMR", "CMR/APR", "noSEn", "noid", NULL },
+    [TPG_26X] = { "TPR", "IKR9", "PKR", "PBR", "IMR", "CMR", "noSEn", "noid", "IKR11" }
 };
 
 static const struct box_number preset_lower = { 10000, -9 };
@@ -79,13 +114,32 @@ static const struct box_reading no_reading = { KIND_NO_SENSOR, STATUS_NO_SENSOR,
 /* What a channel without a sensor shows, in hPa. */
 static const struct box_number no_sensor_hpa = { 20000, -2 };
 
+/* ---- Rules of a model ---- */
+
+static const struct limits *limits_of(const struct box *box, enum mnemonic mnemonic)
+{
+    return &rules[mnemonic].limits[box->model->family];
+}
+
+static int wanted_fields(const struct box *box, enum mnemonic mnemonic)
+{
+    uint8_t fields = limits_of(box, mnemonic)->fields;
+
+    return fields == PER_CHANNEL ? box->model->channels : fields;
+}
+
+static const char *name_of_kind(const struct box *box, uint8_t kind)
+{
+    return kind < KINDS ? kind_name[box->model->family][kind] : NULL;
+}
+
 /* ---- Start ---- */
 
-static void set_defaults(struct box_settings *settings)
+static void set_defaults(struct box_settings *settings, unsigned family)
 {
-    for (int sheet_line = 0; sheet_line < BOX_SHEET; sheet_line++)
+    for (int setting = 0; setting < BOX_SETTINGS; setting++)
         for (int channel = 0; channel < BOX_CHANNELS; channel++)
-            settings->cell[sheet_line][channel] = rules[sheet_line].preset;
+            settings->cell[setting][channel] = rules[setting].limits[family].preset;
     for (int i = 0; i < BOX_SWITCHES; i++) {
         settings->lower[i] = preset_lower;
         settings->upper[i] = preset_upper;
@@ -104,10 +158,12 @@ static void start_stream(struct box *box, unsigned mode)
     box->tick_count = 0;
 }
 
-/* Only assignment 1 is on without a reading. */
+/* On without a reading is only what is assigned so, which a 262 cannot be. */
 static void reset_switch(struct box *box, int i)
 {
-    box->switch_on[i] = box->settings.cell[SP1 + i][0] == ASSIGNED_ON;
+    uint16_t assignment = box->settings.cell[SP1 + i][0];
+
+    box->switch_on[i] = assignment < box->model->channel_1 && assignment == ASSIGNED_ON;
 }
 
 void box_power_cycle(struct box *box)
@@ -124,13 +180,22 @@ void box_power_cycle(struct box *box)
     start_stream(box, 1);
 }
 
+static const struct box_model *find_model(unsigned number)
+{
+    for (size_t i = 0; i < sizeof models / sizeof models[0]; i++)
+        if (models[i].number == number)
+            return &models[i];
+    return NULL;
+}
+
 enum box_answer box_fresh(struct box *box, unsigned model, uint32_t serial)
 {
-    bool good = (model == 361 || model == 362) && serial <= BOX_SERIAL_MAX;
+    const struct box_model *found = find_model(model);
+    bool good = found != NULL && serial <= BOX_SERIAL_MAX;
 
-    box->channels = good && model == 362 ? 2 : 1;
+    box->model = good ? found : find_model(361);
     box->serial = good ? serial : 0;
-    set_defaults(&box->saved);
+    set_defaults(&box->saved, box->model->family);
     box_power_cycle(box);
     return good ? BOX_DONE : BOX_BAD_MODEL_OR_SERIAL;
 }
@@ -193,7 +258,7 @@ static void switch_by_reading(struct box *box, unsigned channel)
     struct box_number value = shown_value(box, reading);
 
     for (int i = 0; i < BOX_SWITCHES; i++) {
-        if (box->settings.cell[SP1 + i][0] != ASSIGNED_CHANNEL_1 + channel)
+        if (box->settings.cell[SP1 + i][0] != box->model->channel_1 + channel)
             continue;
         if (reading->status != STATUS_OK)
             box->switch_on[i] = false;
@@ -204,12 +269,12 @@ static void switch_by_reading(struct box *box, unsigned channel)
     }
 }
 
-static bool reading_within_limits(const struct box_reading *reading)
+static bool reading_within_limits(const struct box *box, const struct box_reading *reading)
 {
     int32_t mantissa = reading->hpa.mantissa;
     int32_t exponent = reading->hpa.exponent;
 
-    if (reading->kind > KIND_NO_ID || reading->status > STATUS_NO_ID)
+    if (name_of_kind(box, reading->kind) == NULL || reading->status > STATUS_NO_ID)
         return false;
     if ((reading->status == STATUS_NO_SENSOR) != (reading->kind == KIND_NO_SENSOR))
         return false;
@@ -227,9 +292,9 @@ static bool reading_within_limits(const struct box_reading *reading)
 enum box_answer box_take_reading(struct box *box, unsigned channel,
                                  const struct box_reading *reading)
 {
-    if (channel < 1 || channel > box->channels)
+    if (channel < 1 || channel > box->model->channels)
         return BOX_NO_SUCH_CHANNEL;
-    if (!reading_within_limits(reading))
+    if (!reading_within_limits(box, reading))
         return BOX_BAD_READING;
     box->reading[channel - 1] = *reading;
     switch_by_reading(box, channel - 1);
@@ -309,7 +374,7 @@ static uint8_t *put_reading(const struct box *box, int channel, uint8_t *at)
 static uint8_t *put_all_readings(const struct box *box, uint8_t *at)
 {
     at = put_reading(box, 0, at);
-    if (box->channels == 2) {
+    if (box->model->channels == 2) {
         at = put_byte(at, ',');
         at = put_reading(box, 1, at);
     }
@@ -318,21 +383,22 @@ static uint8_t *put_all_readings(const struct box *box, uint8_t *at)
 
 static uint8_t *put_kinds(const struct box *box, uint8_t *at)
 {
-    at = put_text(at, kind_name[box->reading[0].kind]);
-    if (box->channels == 2) {
+    at = put_text(at, name_of_kind(box, box->reading[0].kind));
+    if (box->model->channels == 2) {
         at = put_byte(at, ',');
-        at = put_text(at, kind_name[box->reading[1].kind]);
+        at = put_text(at, name_of_kind(box, box->reading[1].kind));
     }
     return at;
 }
 
-static uint8_t *put_pair(const struct box *box, enum mnemonic mnemonic, uint8_t *at)
+/* A setting is answered with as many values as it takes. */
+static uint8_t *put_setting(const struct box *box, enum mnemonic mnemonic, uint8_t *at)
 {
     const uint16_t *cell = box->settings.cell[mnemonic];
     uint8_t *(*put)(uint8_t *, uint32_t) = mnemonic == CAL ? put_factor : put_whole;
 
     at = put(at, cell[0]);
-    if (box->channels == 2) {
+    if (wanted_fields(box, mnemonic) == 2) {
         at = put_byte(at, ',');
         at = put(at, cell[1]);
     }
@@ -360,7 +426,7 @@ static uint8_t *put_switch_status(const struct box *box, uint8_t *at)
 
 static uint8_t *put_identity(const struct box *box, uint8_t *at)
 {
-    at = put_text(at, box->channels == 2 ? "TPG362,PTG28290," : "TPG361,PTG28040,");
+    at = put_text(at, box->model->identity);
     at = put_digits(at, box->serial, 8);
     return put_text(at, ",010100,010100");
 }
@@ -381,10 +447,8 @@ static uint8_t *put_selected(struct box *box, uint8_t *at)
     enum mnemonic selected = (enum mnemonic)box->selection;
 
     switch (selected) {
-    case FIL: case DCD: case CAL:
-        return put_pair(box, selected, at);
     case CF1: case CF2:
-        return put_pair(box, CAL, at);
+        return put_setting(box, CAL, at);
     case SP1: case SP2: case SP3: case SP4:
         return put_switching(&box->settings, (int)selected - SP1, at);
     case SPS:
@@ -397,10 +461,12 @@ static uint8_t *put_selected(struct box *box, uint8_t *at)
         return put_kinds(box, at);
     case AYT:
         return put_identity(box, at);
+    case PNR:
+        return put_text(at, "302-510--");
     case ERR: case NONE:
         return put_error_word(box, at);
     default:
-        return put_whole(at, box->settings.cell[selected][0]);
+        return put_setting(box, selected, at);
     }
 }
 
@@ -528,7 +594,8 @@ static enum mnemonic find_mnemonic(const struct box *box)
     if (box->line_length < 3 || (box->line_length > 3 && box->line[3] != ','))
         return NONE;
     for (int mnemonic = 0; mnemonic < NONE; mnemonic++)
-        if (memcmp(box->line, rules[mnemonic].name, 3) == 0)
+        if (memcmp(box->line, rules[mnemonic].name, 3) == 0 &&
+            limits_of(box, (enum mnemonic)mnemonic)->fields != UNKNOWN)
             return (enum mnemonic)mnemonic;
     return NONE;
 }
@@ -541,13 +608,6 @@ static int count_fields(const struct box *box)
     for (int i = 3; i < box->line_length; i++)
         fields += box->line[i] == ',';
     return fields;
-}
-
-static int wanted_fields(const struct box *box, enum mnemonic mnemonic)
-{
-    uint8_t fields = rules[mnemonic].fields;
-
-    return fields == PER_CHANNEL ? box->channels : fields;
 }
 
 static bool read_fields(const struct box *box, enum mnemonic mnemonic, int fields,
@@ -581,16 +641,16 @@ static bool read_fields(const struct box *box, enum mnemonic mnemonic, int field
 static uint8_t check_value(const struct box *box, enum mnemonic mnemonic, int field,
                            struct box_number value)
 {
-    const struct rule *rule = &rules[mnemonic];
+    const struct limits *limits = limits_of(box, mnemonic);
+    uint8_t needs_channel_2 = rules[mnemonic].needs_channel_2;
 
     if (form_of_field(mnemonic, field) == THRESHOLD) {
         bool good = value.mantissa != 0 && value.exponent >= -20 && value.exponent <= 20;
         return good ? NO_FAULT : INADMISSIBLE;
     }
-    if (value.mantissa < rule->low || value.mantissa > rule->high)
+    if (value.mantissa < limits->low || value.mantissa > limits->high)
         return INADMISSIBLE;
-    if (box->channels == 1 && rule->needs_channel_2 != 0 &&
-        value.mantissa == rule->needs_channel_2)
+    if (box->model->channels == 1 && needs_channel_2 != 0 && value.mantissa == needs_channel_2)
         return NO_HARDWARE;
     return NO_FAULT;
 }
@@ -608,7 +668,7 @@ static void save(struct box *box, bool present)
     if (present)
         box->saved = box->settings;
     else
-        set_defaults(&box->saved);
+        set_defaults(&box->saved, box->model->family);
 }
 
 /* Nothing is stored before the whole line has been checked. */
@@ -635,7 +695,7 @@ static void obey(struct box *box, enum mnemonic mnemonic, int fields,
 {
     box->selection = (uint8_t)mnemonic;
     if (mnemonic == COM || mnemonic == SAV) {
-        int32_t choice = fields == 0 ? rules[mnemonic].preset : value[0].mantissa;
+        int32_t choice = fields == 0 ? limits_of(box, mnemonic)->preset : value[0].mantissa;
         box->selection = NONE;
         if (mnemonic == COM)
             start_stream(box, (unsigned)choice);
@@ -654,7 +714,7 @@ static uint8_t judge_line(struct box *box)
 
     if (mnemonic == NONE)
         return SYNTAX;
-    if (box->channels == 1 && (mnemonic == PR2 || mnemonic == CF2))
+    if (box->model->channels == 1 && (mnemonic == PR2 || mnemonic == CF2))
         return NO_HARDWARE;
     int fields = count_fields(box);
     if (fields != 0 && fields != wanted_fields(box, mnemonic))

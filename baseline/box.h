@@ -1,4 +1,4 @@
-/* A vacuum controller box: one channel (361) or two (362), spoken to in mnemonics. */
+/* A vacuum controller box: one channel (361) or two (362, 262), spoken to in mnemonics. */
 #ifndef BOX_H
 #define BOX_H
 
@@ -21,7 +21,7 @@ enum {
     BOX_LINE_MAX = 80,
     BOX_CHANNELS = 2,
     BOX_SWITCHES = 4,
-    BOX_SHEET = 17
+    BOX_SETTINGS = 22           /* of all models; the sheet of each has only some */
 };
 
 /* d.dddd times a power of ten: the mantissa is 0 or of magnitude 10000 to 99999. */
@@ -31,22 +31,22 @@ struct box_number {
 };
 
 struct box_reading {
-    uint8_t kind;               /* 0 to 7, in the order of the TID names */
+    uint8_t kind;               /* 0 to 7, on a 262 to 8, in the order of the TID names */
     uint8_t status;             /* 0 to 6 */
     struct box_number hpa;
 };
 
-/* The settings of the sheet; a factor is held in thousandths, SPx's cell is its assignment. */
+/* A factor is in thousandths, SPx's cell is its assignment; cells a model lacks never change. */
 struct box_settings {
-    uint16_t cell[BOX_SHEET][BOX_CHANNELS];
+    uint16_t cell[BOX_SETTINGS][BOX_CHANNELS];
     struct box_number lower[BOX_SWITCHES];
     struct box_number upper[BOX_SWITCHES];
 };
 
 /* Here so that callers can reserve the room; its members are for box.c only. */
 struct box {
+    const struct box_model *model;
     uint32_t serial;
-    uint8_t channels;
     uint8_t selection;          /* mnemonic that ENQ answers */
     uint8_t error_word;         /* one bit for each digit of the word */
     bool after_cr;              /* the last host byte was a CR */
@@ -61,7 +61,7 @@ struct box {
     struct box_settings saved;
 };
 
-/* Makes a fresh box; on answer 2 it is a fresh 361 with serial 0. */
+/* Makes a fresh 361, 362 or 262; on answer 2 it is a fresh 361 with serial 0. */
 enum box_answer box_fresh(struct box *box, unsigned model, uint32_t serial);
 
 /* Takes host bytes while any remain and 64 output bytes are free before the byte. */

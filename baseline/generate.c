@@ -12,10 +12,12 @@
 enum { ETX = 3, ENQ = 5, LF = 10, CR = 13 };
 enum { HOST_BYTES = 1, READING, TICKS, FRESH_BOX, POWER_CYCLE };
 enum { HOST_LIMIT = 60, LINE_LIMIT = 80, TEXT_LIMIT = 4096 };
-enum { SHEET_LENGTH = 17, THRESHOLD_DIGITS = 12 };
+enum { LONGEST_SHEET = 17, THRESHOLD_DIGITS = 12 };
+
+#define COUNT(table) (sizeof(table) / sizeof((table)[0]))
 
 /* At most one pick stands in a statement: C leaves the order of two open. */
-#define PICK(table) ((table)[below(sizeof(table) / sizeof((table)[0]))])
+#define PICK(table) ((table)[below(COUNT(table))])
 
 struct text {
 	size_t length;
@@ -46,30 +48,61 @@ struct mnemonic {
 	int top_needs_channel_2;
 };
 
-/* The first seventeen are the sheet, in its order. */
-static const struct mnemonic mnemonics[] = {
-	{"UNI", WHOLE, 0, 4, 0, 0},     {"FIL", WHOLE, 0, 3, 1, 0},
-	{"CAL", FACTOR, 0, 0, 1, 0},    {"DCD", WHOLE, 0, 4, 1, 0},
-	{"SP1", SWITCHING, 0, 3, 0, 1}, {"SP2", SWITCHING, 0, 3, 0, 1},
-	{"SP3", SWITCHING, 0, 3, 0, 1}, {"SP4", SWITCHING, 0, 3, 0, 1},
-	{"ERA", WHOLE, 0, 3, 0, 1},     {"EVA", WHOLE, 0, 1, 0, 0},
-	{"FMT", WHOLE, 0, 1, 0, 0},     {"LNG", WHOLE, 0, 2, 0, 0},
-	{"NAD", WHOLE, 1, 24, 0, 0},    {"PRE", WHOLE, 0, 1, 0, 0},
-	{"PRO", WHOLE, 0, 2, 0, 0},     {"PUC", WHOLE, 0, 1, 0, 0},
-	{"DCS", WHOLE, 0, 6, 0, 0},     {"CF1", FACTOR, 0, 0, 0, 0},
-	{"CF2", FACTOR, 0, 0, 0, 0},    {"SPS", NO_FIELD, 0, 1, 0, 0},
-	{"PR1", NO_FIELD, 0, 1, 0, 0},  {"PR2", NO_FIELD, 0, 1, 0, 0},
-	{"PRX", NO_FIELD, 0, 1, 0, 0},  {"TID", NO_FIELD, 0, 1, 0, 0},
-	{"AYT", NO_FIELD, 0, 1, 0, 0},  {"ERR", NO_FIELD, 0, 1, 0, 0},
-	{"COM", WHOLE, 0, 2, 0, 0},     {"SAV", WHOLE, 0, 1, 0, 0},
+/* A sheet comes first, in its order; a factor's limits are in thousandths. */
+static const struct mnemonic of_a_36x[] = {
+	{"UNI", WHOLE, 0, 4, 0, 0},        {"FIL", WHOLE, 0, 3, 1, 0},
+	{"CAL", FACTOR, 100, 10000, 1, 0}, {"DCD", WHOLE, 0, 4, 1, 0},
+	{"SP1", SWITCHING, 0, 3, 0, 1},    {"SP2", SWITCHING, 0, 3, 0, 1},
+	{"SP3", SWITCHING, 0, 3, 0, 1},    {"SP4", SWITCHING, 0, 3, 0, 1},
+	{"ERA", WHOLE, 0, 3, 0, 1},        {"EVA", WHOLE, 0, 1, 0, 0},
+	{"FMT", WHOLE, 0, 1, 0, 0},        {"LNG", WHOLE, 0, 2, 0, 0},
+	{"NAD", WHOLE, 1, 24, 0, 0},       {"PRE", WHOLE, 0, 1, 0, 0},
+	{"PRO", WHOLE, 0, 2, 0, 0},        {"PUC", WHOLE, 0, 1, 0, 0},
+	{"DCS", WHOLE, 0, 6, 0, 0},        {"CF1", FACTOR, 100, 10000, 0, 0},
+	{"CF2", FACTOR, 100, 10000, 0, 0}, {"SPS", NO_FIELD, 0, 1, 0, 0},
+	{"PR1", NO_FIELD, 0, 1, 0, 0},     {"PR2", NO_FIELD, 0, 1, 0, 0},
+	{"PRX", NO_FIELD, 0, 1, 0, 0},     {"TID", NO_FIELD, 0, 1, 0, 0},
+	{"AYT", NO_FIELD, 0, 1, 0, 0},     {"ERR", NO_FIELD, 0, 1, 0, 0},
+	{"COM", WHOLE, 0, 2, 0, 0},        {"SAV", WHOLE, 0, 1, 0, 0},
+};
+
+static const struct mnemonic of_a_262[] = {
+	{"UNI", WHOLE, 0, 2, 0, 0},        {"FIL", WHOLE, 0, 2, 1, 0},
+	{"CAL", FACTOR, 100, 9990, 1, 0},  {"DCD", WHOLE, 2, 3, 0, 0},
+	{"SP1", SWITCHING, 0, 1, 0, 0},    {"SP2", SWITCHING, 0, 1, 0, 0},
+	{"SP3", SWITCHING, 0, 1, 0, 0},    {"SP4", SWITCHING, 0, 1, 0, 0},
+	{"PUC", WHOLE, 0, 1, 1, 0},        {"DIC", WHOLE, 0, 1, 0, 0},
+	{"SCT", WHOLE, 0, 1, 0, 0},        {"WDT", WHOLE, 0, 1, 0, 0},
+	{"TLC", WHOLE, 0, 1, 0, 0},        {"LOC", WHOLE, 0, 1, 0, 0},
+	{"SPS", NO_FIELD, 0, 1, 0, 0},     {"PR1", NO_FIELD, 0, 1, 0, 0},
+	{"PR2", NO_FIELD, 0, 1, 0, 0},     {"PRX", NO_FIELD, 0, 1, 0, 0},
+	{"TID", NO_FIELD, 0, 1, 0, 0},     {"PNR", NO_FIELD, 0, 1, 0, 0},
+	{"ERR", NO_FIELD, 0, 1, 0, 0},     {"COM", WHOLE, 0, 2, 0, 0},
+	{"SAV", WHOLE, 0, 1, 0, 0},
+};
+
+struct model {
+	int channels;
+	int channel_1; /* the assignment to it */
+	size_t gauges;
+	size_t sheet_length;
+	size_t known;
+	const struct mnemonic *mnemonics;
+};
+
+/* Each in the place of its byte in a frame, counted from 1. */
+static const struct model models[] = {
+	{1, 2, 6, 17, COUNT(of_a_36x), of_a_36x},
+	{2, 2, 6, 17, COUNT(of_a_36x), of_a_36x},
+	{2, 0, 7, 14, COUNT(of_a_262), of_a_262},
 };
 
 static uint64_t random_state;
 static uint64_t frames_left;
 static unsigned frames_of_this_box;
 
-/* Channels of the present box: they decide which lines are valid. */
-static int channels = 2;
+/* The present box's: it decides which lines and readings are valid. */
+static const struct model *model = &models[1];
 
 /* ---- Chance ---- */
 
@@ -96,6 +129,16 @@ static int between(int low, int high)
 static int chance(unsigned percent)
 {
 	return below(100) < percent;
+}
+
+static const struct mnemonic *some_mnemonic(void)
+{
+	return &model->mnemonics[below(model->known)];
+}
+
+static const struct mnemonic *some_setting(void)
+{
+	return &model->mnemonics[below(model->sheet_length)];
 }
 
 /* ---- Texts ---- */
@@ -213,10 +256,10 @@ static void power_cycle(void)
 	write_frame(&frame);
 }
 
-static void fresh_box(int new_channels)
+static void fresh_box(const struct model *new_model)
 {
-	channels = new_channels;
-	write_short_frame(FRESH_BOX, channels);
+	model = new_model;
+	write_short_frame(FRESH_BOX, (int)(model - models) + 1);
 	frames_of_this_box = 0;
 }
 
@@ -269,15 +312,22 @@ static int some_exponent(void)
 	return chance(40) ? PICK(limits) : between(-20, 20);
 }
 
+static int some_gauge(void)
+{
+	static const int kinds[] = {0, 1, 2, 3, 4, 5, 8};
+
+	return kinds[below(model->gauges)];
+}
+
 /* Status 5 belongs to kind 6 alone, status 6 to kind 7. */
 static struct reading valid_reading(void)
 {
 	struct reading reading = {0, 0, 0, 0, {0, 0}};
 
-	reading.channel = between(1, channels);
-	reading.kind = chance(85) ? between(0, 5) : between(6, 7);
+	reading.channel = between(1, model->channels);
+	reading.kind = chance(85) ? some_gauge() : between(6, 7);
 	reading.sign = chance(15);
-	if (reading.kind >= 6)
+	if (reading.kind == 6 || reading.kind == 7)
 		reading.status = reading.kind - 1;
 	else if (chance(25))
 		reading.status = between(1, 4);
@@ -291,19 +341,20 @@ static struct reading valid_reading(void)
 static void spoil_reading(struct reading *reading)
 {
 	static const int channel[] = {0, 0, 2, 2, 3, 255};
+	static const int kind[] = {6, 7, 8, 8, 8, 8, 9, 9, 10, 255};
 	static const int sign[] = {2, 3, 128, 255};
 	static const int exponent[] = {-128, -22, -21, -1, 1, 21, 22, 127};
 	static const int digits[] = {1, 9999, 10000, 99999, 100000, 65536,
 				     75536, 165535, 8388608, 16777215};
 
-	switch (below(8)) {
+	switch (below(9)) {
 	case 0: reading->channel = PICK(channel); break;
-	case 1: reading->kind = between(6, 9); break;
-	case 2: reading->status = between(4, 8); break;
-	case 3: reading->sign = PICK(sign); break;
-	case 4: reading->value.digits = PICK(digits); break;
-	case 5: reading->value.digits = between(0, 0xFFFFFF); break;
-	case 6: reading->value.digits = 0; break;
+	case 1: case 2: reading->kind = PICK(kind); break;
+	case 3: reading->status = between(4, 8); break;
+	case 4: reading->sign = PICK(sign); break;
+	case 5: reading->value.digits = PICK(digits); break;
+	case 6: reading->value.digits = between(0, 0xFFFFFF); break;
+	case 7: reading->value.digits = 0; break;
 	default: reading->value.exponent = PICK(exponent); break;
 	}
 }
@@ -381,7 +432,7 @@ static void write_wrong_length(void)
 		frame.length = 1 + below(frame.length - 1);
 		break;
 	case 2: put(&frame, TICKS); put_repeated(&frame, 1, 2 * between(0, 1)); break;
-	case 3: put(&frame, FRESH_BOX); put_repeated(&frame, 1, 2 * between(0, 1)); break;
+	case 3: put(&frame, FRESH_BOX); put_repeated(&frame, 3, 2 * between(0, 1)); break;
 	case 4: put(&frame, POWER_CYCLE); put_repeated(&frame, 0, between(1, 2)); break;
 	default: put(&frame, HOST_BYTES); put_repeated(&frame, ENQ, HOST_LIMIT + 1);
 	}
@@ -492,7 +543,7 @@ static void send_repeated(int byte, int times)
 
 static int highest(const struct mnemonic *mnemonic)
 {
-	if (mnemonic->top_needs_channel_2 && channels == 1)
+	if (mnemonic->top_needs_channel_2 && model->channels == 1)
 		return mnemonic->high - 1;
 	return mnemonic->high;
 }
@@ -526,17 +577,27 @@ static void put_edge_whole(struct text *line, const struct mnemonic *mnemonic)
 	}
 }
 
-static int thousandths_of_a_factor(void)
+static int thousandths_of_a_factor(const struct mnemonic *mnemonic)
 {
-	static const int often[] = {100, 101, 500, 1000, 1250, 2000, 9999, 10000};
+	const int low = mnemonic->low;
+	const int high = mnemonic->high;
+	const int often[] = {low, low + 1, 500, 1000, 1250, 2000, high - 1, high};
 
-	return chance(40) ? PICK(often) : between(100, 10000);
+	return chance(40) ? PICK(often) : between(low, high);
+}
+
+/* The form of a reply. */
+static void put_shown_factor(struct text *line, int thousandths)
+{
+	put_number(line, thousandths / 1000, 1);
+	put(line, '.');
+	put_number(line, thousandths % 1000, 3);
 }
 
 /* One factor has many forms: trailing zeros and the point may be left out. */
-static void put_valid_factor(struct text *line)
+static void put_valid_factor(struct text *line, const struct mnemonic *mnemonic)
 {
-	int thousandths = thousandths_of_a_factor();
+	int thousandths = thousandths_of_a_factor(mnemonic);
 	int decimals = 3;
 	int scale = 1;
 
@@ -556,6 +617,7 @@ static void put_edge_factor(struct text *line)
 	static const char *const forms[] = {
 		"", "", "", "", "0.099", "0.1", "0.10", "0.100", "0.101", "00.1",
 		"00.100", "0.09", "0.0", "0", "00", "0.000", "00.099", "9.999",
+		"9.985", "9.989", "9.99", "9.990", "9.991", "09.991", "9.9900",
 		"10", "10.0", "10.00", "10.000", "10.001", "10.01", "10.1", "11",
 		"99", "99.999", "1.", "10.", "0.", ".", ".5", ".500", ".1", "100",
 		"001", "000", "010.0", "1.0000", "0.1000", "10.0000", "0.0999",
@@ -715,14 +777,14 @@ static int field_count(const struct mnemonic *mnemonic)
 		return 0;
 	if (mnemonic->form == SWITCHING)
 		return 3;
-	return mnemonic->per_channel ? channels : 1;
+	return mnemonic->per_channel ? model->channels : 1;
 }
 
 static void put_valid_field(struct text *line, const struct mnemonic *mnemonic,
 			    int field)
 {
 	if (mnemonic->form == FACTOR)
-		put_valid_factor(line);
+		put_valid_factor(line, mnemonic);
 	else if (mnemonic->form == SWITCHING && field > 0)
 		put_valid_threshold(line);
 	else
@@ -770,6 +832,21 @@ static void put_edge_line(struct text *line, const struct mnemonic *mnemonic)
 	put_line(line, mnemonic, fields, chance(60) ? one : below(8), 0);
 }
 
+static void put_line_with_value(struct text *line, const struct mnemonic *mnemonic,
+				int field, int value)
+{
+	put_string(line, mnemonic->name);
+	for (int i = 0; i < field_count(mnemonic); i++) {
+		put(line, ',');
+		if (i != field)
+			put_valid_field(line, mnemonic, i);
+		else if (mnemonic->form == FACTOR)
+			put_shown_factor(line, value);
+		else
+			put_number(line, value, 1);
+	}
+}
+
 static void put_line_with_empty_fields(struct text *line,
 				       const struct mnemonic *mnemonic)
 {
@@ -786,14 +863,15 @@ static void put_unknown_name(struct text *line)
 	static const char *const names[] = {
 		"ADC", "BAL", "BAU", "DAT", "DCB", "DCC", "DGS", "DIS", "EEP", "EPR",
 		"ETH", "FSR", "GAS", "HDW", "IOT", "LCM", "LOC", "MAC", "OFC", "OFD",
-		"PNR", "RES", "RHR", "SC1", "SC2", "SCM", "SEN", "TAI", "TIM", "TKB",
-		"TLC", "TMP", "WDT", "SP0", "SP5", "SP", "SPX", "SP11", "PR0", "PR3",
-		"PR", "PRXX", "CF0", "CF3", "CF", "uni", "Uni", "fil", "sp1", "prx",
-		"UN", "U", "UNIT", "FOL", "COMM", "CO", "SAVE", "SA", "ER", "ERRR",
-		"AY", "TI", "NAD1", "1", ",", ",,", ",UNI", "UNI;1", "UNI1", "UNI.",
-		"PR2X", "CF21", "PRX0", "ENQ", "\"UNI", "U,NI", "",
+		"PNR", "RAM", "RES", "RHR", "RST", "RSX", "SC1", "SC2", "SCM", "SEN",
+		"TAI", "TIM", "TKB", "TLC", "TMP", "WDT", "SP0", "SP5", "SP", "SPX",
+		"SP11", "PR0", "PR3", "PR", "PRXX", "CF0", "CF3", "CF", "uni", "Uni",
+		"fil", "sp1", "prx", "UN", "U", "UNIT", "FOL", "COMM", "CO", "SAVE",
+		"SA", "ER", "ERRR", "AY", "TI", "NAD1", "1", ",", ",,", ",UNI",
+		"UNI;1", "UNI1", "UNI.", "PR2X", "CF21", "PRX0", "ENQ", "\"UNI",
+		"U,NI", "",
 	};
-	const struct mnemonic *near = &PICK(mnemonics);
+	const struct mnemonic *near = some_mnemonic();
 	size_t letter = line->length + below(3);
 
 	if (chance(65)) {
@@ -811,6 +889,22 @@ static void put_unknown_line(struct text *line)
 		put(line, ',');
 	if (chance(40))
 		put_number(line, between(0, 3), 1);
+}
+
+/* What another model takes may be unknown here, or have other fields and limits. */
+static void put_foreign_line(struct text *line)
+{
+	const struct model *own = model;
+	const struct mnemonic *mnemonic;
+
+	model = &PICK(models);
+	mnemonic = some_mnemonic();
+	switch (below(4)) {
+	case 0: put_string(line, mnemonic->name); break;
+	case 1: put_edge_line(line, mnemonic); break;
+	default: put_valid_line(line, mnemonic); break;
+	}
+	model = own;
 }
 
 static void mutate(struct text *line)
@@ -857,11 +951,13 @@ static void end_line(struct text *line)
 
 static void put_some_line(struct text *line)
 {
-	const struct mnemonic *mnemonic = &PICK(mnemonics);
+	const struct mnemonic *mnemonic = some_mnemonic();
 	unsigned manner = below(100);
 
-	if (manner < 45) {
+	if (manner < 35) {
 		put_valid_line(line, mnemonic);
+	} else if (manner < 47) {
+		put_foreign_line(line);
 	} else if (manner < 60) {
 		put_string(line, mnemonic->name);
 	} else if (manner < 77) {
@@ -894,7 +990,7 @@ static void ask(const struct mnemonic *mnemonic)
 
 static void ask_a_setting(void)
 {
-	ask(&mnemonics[below(SHEET_LENGTH)]);
+	ask(some_setting());
 }
 
 static void ask_state(void)
@@ -916,7 +1012,7 @@ static void change_settings(int times)
 		struct text line;
 
 		begin(&line);
-		put_valid_line(&line, &mnemonics[below(SHEET_LENGTH)]);
+		put_valid_line(&line, some_setting());
 		put(&line, CR);
 		send(&line);
 	}
@@ -939,19 +1035,34 @@ static void play_lines(void)
 /* Numbers with many forms get lines of their own, each shown at once. */
 static void play_number_forms(void)
 {
-	static const char *const names[] = {
-		"SP1", "SP1", "SP2", "SP3", "SP4", "CAL", "CF1", "CF2",
-	};
-	const char *name = PICK(names);
-	const struct mnemonic *mnemonic = mnemonics;
+	const struct mnemonic *mnemonic = some_mnemonic();
 
-	while (strcmp(mnemonic->name, name) != 0)
-		mnemonic++;
+	while (mnemonic->form != FACTOR && mnemonic->form != SWITCHING)
+		mnemonic = some_mnemonic();
 	for (int lines = between(2, 4); lines > 0; lines--) {
 		struct text line;
 
 		begin(&line);
 		put_edge_line(&line, mnemonic);
+		put_string(&line, "\r\005");
+		send(&line);
+	}
+	ask(mnemonic);
+}
+
+/* Both sides of a setting's limits in one field, each shown at once. */
+static void play_limits(void)
+{
+	const struct mnemonic *mnemonic = some_setting();
+	const int values[] = {mnemonic->low - 1, mnemonic->low, mnemonic->high,
+			      mnemonic->high + 1};
+	int field = mnemonic->per_channel ? between(0, model->channels - 1) : 0;
+
+	for (size_t i = 0; i < COUNT(values); i++) {
+		struct text line;
+
+		begin(&line);
+		put_line_with_value(&line, mnemonic, field, values[i]);
 		put_string(&line, "\r\005");
 		send(&line);
 	}
@@ -973,7 +1084,7 @@ static void play_split_lines(void)
 /* Every field empty in turn, then all of them: nothing may be stored. */
 static void play_empty_fields(void)
 {
-	const struct mnemonic *mnemonic = &PICK(mnemonics);
+	const struct mnemonic *mnemonic = some_mnemonic();
 	int fields = field_count(mnemonic);
 	struct text line;
 
@@ -998,7 +1109,9 @@ static void play_refusals(void)
 		"PR2\r", "CF2\r", "CF2,1\r", "CF2,,,\r", "PR2,1\r", "ERA,3\r",
 		"SP1,3,1,1\r", "SP2,3,0,1\r", "SP3,2,0,1\r", "SP4,3,.,1\r", "UNI,5\r",
 		"NAD,0\r", "NAD,25\r", "CF1,0.099\r", "COM,3\r", "SAV,2\r", "DCS,7\r",
-		"\r", "X\r", "UNI,\r", "CF3\r", "SPS,1\r", "COM,,\r",
+		"\r", "X\r", "UNI,\r", "CF3\r", "SPS,1\r", "COM,,\r", "PNR,1\r",
+		"DCD,1\r", "DCD,4\r", "DCD,2,2\r", "PUC,1\r", "PUC,0,2\r", "UNI,3\r",
+		"WDT,2\r", "LOC,\r", "CAL,9.991,1\r", "FIL,3,0\r", "AYT\r", "NAD,1\r",
 	};
 	static const char *const ends[] = {
 		"\005", "\005\005", "ERR\r\005\005", "ERR\r\n\005", "X\005\005",
@@ -1060,6 +1173,12 @@ static struct decimal moved(struct decimal value, int by)
 	return value;
 }
 
+/* UNI is the first of every sheet. */
+static int some_unit(void)
+{
+	return between(model->mnemonics->low, model->mnemonics->high);
+}
+
 static void set_unit(int unit)
 {
 	struct text line;
@@ -1081,7 +1200,7 @@ static void set_switching(int channel, struct decimal near)
 	put_string(&line, "SP");
 	put_number(&line, between(1, 4), 1);
 	put(&line, ',');
-	put_number(&line, channel + 1, 1);
+	put_number(&line, model->channel_1 + channel - 1, 1);
 	put(&line, ',');
 	put_shown_threshold(&line, lower);
 	put(&line, ',');
@@ -1100,17 +1219,17 @@ static void read_near(struct reading reading)
 	if (chance(4))
 		reading.value = (struct decimal){0, 0};
 	if (chance(6))
-		reading.channel = between(1, channels);
+		reading.channel = between(1, model->channels);
 	write_reading(&reading);
 }
 
 static void play_thresholds(void)
 {
 	struct reading reading = {0, 0, 0, 0, {0, 0}};
-	int unit = between(0, 4);
+	int unit = some_unit();
 
-	reading.channel = between(1, channels);
-	reading.kind = between(0, 5);
+	reading.channel = between(1, model->channels);
+	reading.kind = some_gauge();
 	reading.value.digits = some_digits();
 	reading.value.exponent = chance(85) ? between(-18, 16) : some_exponent();
 	set_unit(unit);
@@ -1122,7 +1241,7 @@ static void play_thresholds(void)
 		if (chance(80))
 			send_repeated(ENQ, 1);
 		if (chance(6)) {
-			set_unit(between(0, 4));
+			set_unit(some_unit());
 			send_string("SPS\r\005");
 		}
 	}
@@ -1217,11 +1336,7 @@ static void put_sheet_line(struct text *line, const struct mnemonic *mnemonic)
 	for (int i = 0; i < field_count(mnemonic); i++) {
 		put(line, ',');
 		if (mnemonic->form == FACTOR) {
-			int thousandths = thousandths_of_a_factor();
-
-			put_number(line, thousandths / 1000, 1);
-			put(line, '.');
-			put_number(line, thousandths % 1000, 3);
+			put_shown_factor(line, thousandths_of_a_factor(mnemonic));
 		} else if (mnemonic->form == SWITCHING && i > 0) {
 			struct decimal value = {some_digits(), 0};
 
@@ -1234,27 +1349,29 @@ static void put_sheet_line(struct text *line, const struct mnemonic *mnemonic)
 	put(line, CR);
 }
 
-static void send_sheet(const struct text *sheet)
+/* What a sheet leaves is asked for as the present box has it. */
+static void send_sheet(const struct text *sheet, size_t length)
 {
-	for (int i = 0; i < SHEET_LENGTH; i++)
+	for (size_t i = 0; i < length; i++)
 		send_whole(&sheet[i]);
-	for (int i = 0; i < SHEET_LENGTH; i++)
-		ask(&mnemonics[i]);
+	for (size_t i = 0; i < model->sheet_length; i++)
+		ask(&model->mnemonics[i]);
 }
 
 static void play_sheet(void)
 {
-	struct text sheet[SHEET_LENGTH];
+	struct text sheet[LONGEST_SHEET];
+	const struct model *first = &PICK(models);
 
-	fresh_box(between(1, 2));
-	for (int i = 0; i < SHEET_LENGTH; i++) {
+	fresh_box(first);
+	for (size_t i = 0; i < first->sheet_length; i++) {
 		begin(&sheet[i]);
-		put_sheet_line(&sheet[i], &mnemonics[i]);
+		put_sheet_line(&sheet[i], &first->mnemonics[i]);
 	}
-	send_sheet(sheet);
-	/* Mostly the same model; the other one has to refuse some lines. */
-	fresh_box(chance(75) ? channels : 3 - channels);
-	send_sheet(sheet);
+	send_sheet(sheet, first->sheet_length);
+	/* Mostly the same model; another one has to refuse some lines. */
+	fresh_box(chance(65) ? first : &PICK(models));
+	send_sheet(sheet, first->sheet_length);
 }
 
 static void play_power_on(void)
@@ -1266,7 +1383,7 @@ static void play_power_on(void)
 	if (chance(50))
 		power_cycle();
 	else
-		fresh_box(between(1, 2));
+		fresh_box(&PICK(models));
 	if (chance(60))
 		some_ticks();
 	send_string(PICK(first));
@@ -1301,7 +1418,7 @@ static void play_spaced_line(void)
 	struct text line;
 
 	begin(&line);
-	put_valid_line(&line, &PICK(mnemonics));
+	put_valid_line(&line, some_mnemonic());
 	sprinkle(&line, between(20, 150));
 	end_line(&line);
 	send(&line);
@@ -1328,6 +1445,7 @@ static void play_full_frame(void)
 {
 	static const char *const selections[] = {
 		"PRX\r", "AYT\r", "AYT\r\n", "SP1\r", "CAL\r", "ERR\r", "TID\r", "X\r",
+		"PNR\r", "PUC\r",
 	};
 	static const int counts[] = {0, 1, 2, 59, 60, 60, 61};
 	static const int bytes[] = {ENQ, ENQ, ENQ, ENQ, ENQ, CR, LF, ETX, ' ', 'A'};
@@ -1361,6 +1479,7 @@ static void play_pieces(void)
 		"\r", "\r", "\r", "\n", "\n", "\005", "\005", "\003", " ", ",", ",", "0",
 		"1", "2", "1E-3", "E", ".", "+", "\001", "\177", "\377", "UNI", "UNI,1",
 		"SP1", "SP2,2,1,2", "CAL", "COM,0", "PRX", "PR2", "ERR", "SAV", "NAD,7",
+		"SP2,1,1,2", "DCD,3", "WDT,0", "PNR",
 	};
 	struct text text;
 
@@ -1372,12 +1491,12 @@ static void play_pieces(void)
 
 static void play_malformed(void)
 {
-	static const int models[] = {0, 3, 4, 16, 129, 255};
+	static const int no_model[] = {0, 4, 4, 5, 6, 16, 129, 131, 255};
 
 	for (int frames = between(1, 3); frames > 0; frames--)
 		write_malformed();
 	if (chance(40))
-		write_short_frame(FRESH_BOX, PICK(models));
+		write_short_frame(FRESH_BOX, PICK(no_model));
 }
 
 /* ---- Mixing ---- */
@@ -1399,12 +1518,12 @@ static void play_a_scenario(void)
 		{30, play_long_line},    {15, play_spaced_line},
 		{25, play_bad_line},     {20, play_full_frame},
 		{8, play_odd_bytes},     {20, play_pieces},
-		{25, play_malformed},
+		{25, play_malformed},    {60, play_limits},
 	};
 	unsigned total = 0;
 	unsigned chosen;
 
-	for (size_t i = 0; i < sizeof scenarios / sizeof scenarios[0]; i++)
+	for (size_t i = 0; i < COUNT(scenarios); i++)
 		total += scenarios[i].weight;
 	chosen = below(total);
 	for (size_t i = 0;; i++) {
@@ -1422,7 +1541,7 @@ static void generate(void)
 
 	while (frames_left > 0) {
 		if (frames_of_this_box >= longest) {
-			fresh_box(between(1, 2));
+			fresh_box(&PICK(models));
 			longest = 30 + below(50);
 		}
 		play_a_scenario();

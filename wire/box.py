@@ -7,13 +7,14 @@ from wire.trace import tell
 
 
 class Box:
-    """An engine with a line, a clock and gauges."""
+    """An engine with a line, a clock and gauges of these kinds."""
 
-    def __init__(self, engine, terminal, clock, trace):
+    def __init__(self, engine, terminal, clock, trace, kinds):
         self._engine = engine
         self._terminal = terminal
         self._clock = clock
         self._trace = trace
+        self._kinds = kinds
 
     def tick(self):
         """Gives the engine every tick that is due; of the lines that they bring the last is the one to read."""
@@ -38,21 +39,22 @@ class Box:
 
     def gauge(self, line):
         """Takes a line about gauges; true where it ends the box."""
+        reasons = readings.reasons(self._kinds)
         try:
             text = readings.text(line)
             if text.split() == ["quit"]:
                 return True
             if text.split() == ["help"]:
-                print(readings.HELP, flush=True)
+                print(readings.help_text(self._kinds), flush=True)
                 return False
-            answer, _ = self._engine.ask(readings.frame(text), readings.REASONS)
+            answer, _ = self._engine.ask(readings.frame(text, self._kinds), reasons)
         except readings.NotUnderstood as fault:
             tell("%s; nothing changed (help tells what is understood)" % fault)
             return False
         if answer == 0:
             self._trace.gauge(text)
         else:
-            tell("'%s' is answered %d: %s; nothing changed" % (text, answer, readings.REASONS[answer]))
+            tell("'%s' is answered %d: %s; nothing changed" % (text, answer, reasons[answer]))
         return False
 
     def _ready(self, gauges):

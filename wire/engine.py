@@ -4,8 +4,9 @@ import os
 import signal
 import subprocess
 
+from wire.models import MODELS
+
 HOST, TICKS, FRESH = b"\x01", b"\x03", b"\x04"
-FRESH_MODEL = {"361": b"\x01", "362": b"\x02"}
 HOST_BYTES, MOST_TICKS = 60, 255
 
 
@@ -23,7 +24,7 @@ class Engine:
         self.fd = self._process.stdout.fileno()
         self._read = b""
         try:
-            self.ask(FRESH + FRESH_MODEL[model])
+            self.ask(FRESH + MODELS[model].fresh)
         except BaseException:
             self.close()
             raise

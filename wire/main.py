@@ -10,6 +10,7 @@ from wire.box import Box
 from wire.clock import Clock
 from wire.engine import Engine, EngineFault
 from wire.gauges import Fifo, standard_input
+from wire.models import MODELS, USUAL
 from wire.terminal import Terminal
 from wire.trace import Trace, tell
 from wire.trying import attempt
@@ -31,8 +32,8 @@ class Parser(argparse.ArgumentParser):
 
 def options(words):
     """The options of the command line."""
-    parser = Parser(prog="box", allow_abbrev=False, description="A TPG 361 or TPG 362 on a pseudo-terminal.")
-    parser.add_argument("--model", choices=("361", "362"), default="362", help="which unit; 362 where it is not said")
+    parser = Parser(prog="box", allow_abbrev=False, description="A TPG 361, 362 or 262 on a pseudo-terminal.")
+    parser.add_argument("--model", choices=MODELS, default=USUAL, help="which unit; %(default)s where it is not said")
     parser.add_argument("--link", metavar="PATH", help="a link to the pseudo-terminal, while the box runs")
     parser.add_argument("--gauges", metavar="PATH", help="a FIFO with the lines about gauges, not standard input")
     parser.add_argument("--trace", action="store_true", help="show all that goes over the line")
@@ -91,7 +92,8 @@ def serve(chosen):
         print(name)
         print("A TPG %s: open it as a serial port, as with picocom %s; lines about gauges go %s, help and quit too."
               % (chosen.model, name, gauge_lines), flush=True)
-        Box(engine, terminal, Clock(), Trace(sys.stdout if chosen.trace else None)).run(source)
+        trace = Trace(sys.stdout if chosen.trace else None)
+        Box(engine, terminal, Clock(), trace, MODELS[chosen.model].kinds).run(source)
 
 
 def stop(*_):

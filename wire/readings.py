@@ -5,30 +5,35 @@ import re
 from wire.trace import named
 
 LONGEST = 200
-KINDS = "TPR/PCR IKR PKR PBR IMR CMR/APR noSEn noid".split()
 NO_SENSOR, STATUS_NO_SENSOR = 6, 5
 DIGITS = 5
-
-HELP = """\
-CHANNEL KIND STATUS VALUE   a reading, its value in hPa (1 CMR/APR 0 1.013E3)
-  kinds, by name or number from 0 on: %s
-  status: 0 good data, 1 underrange, 2 overrange, 3 sensor error, 4 sensor off, 5 no sensor, 6 identification error
-CHANNEL off                 no sensor on that channel (2 off)
-cycle                       a power cycle: readings are gone, and settings that were not saved
-help                        this text
-quit                        the box ends""" % ", ".join(KINDS)
-
-REASONS = {
-    4: "this model has no such channel",
-    5: "no reading is so: kind 0 to 7, status 0 to 6, exponent -20 to 20; "
-    "noSEn has status 5 and the value 0, noid status 6, and no other kind has these",
-}
 
 VALUE = re.compile(r"([+-]?)([0-9]*)(?:\.([0-9]*))?(?:[Ee]([+-]?[0-9]+))?")
 
 
 class NotUnderstood(Exception):
     """A line that says nothing to the box, with the reason."""
+
+
+def help_text(kinds):
+    """What is understood, for a model with these kinds."""
+    return """\
+CHANNEL KIND STATUS VALUE   a reading, its value in hPa (1 PKR 0 1.5E-4)
+  kinds, by name or number from 0 on: %s
+  status: 0 good data, 1 underrange, 2 overrange, 3 sensor error, 4 sensor off, 5 no sensor, 6 identification error
+CHANNEL off                 no sensor on that channel (2 off)
+cycle                       a power cycle: readings are gone, and settings that were not saved
+help                        this text
+quit                        the box ends""" % ", ".join(kinds)
+
+
+def reasons(kinds):
+    """Why a model with these kinds refuses what it is told, by the number of the answer."""
+    return {
+        4: "this model has no such channel",
+        5: "no reading is so: kind 0 to %d, status 0 to 6, exponent -20 to 20; "
+        "noSEn has status 5 and the value 0, noid status 6, and no other kind has these" % (len(kinds) - 1),
+    }
 
 
 def text(line):
@@ -49,12 +54,12 @@ def _byte(word, what):
     return int(word)
 
 
-def _kind(word):
-    names = [name.lower() for name in KINDS]
+def _kind(word, kinds):
+    names = [name.lower() for name in kinds]
     if word.lower() in names:
         return names.index(word.lower())
     if not word.isdigit():
-        raise NotUnderstood("kind '%s' is none of %s, and no number" % (word, ", ".join(KINDS)))
+        raise NotUnderstood("kind '%s' is no number and none of this model's: %s" % (word, ", ".join(kinds)))
     return _byte(word, "kind")
 
 
@@ -81,8 +86,8 @@ def _reading(channel, kind, status, sign, mantissa, exponent):
     return parts + mantissa.to_bytes(3, "big") + exponent.to_bytes(1, "big", signed=True)
 
 
-def frame(line):
-    """The frame of a line that is a reading or a power cycle."""
+def frame(line, kinds):
+    """The frame of a line that is a reading or a power cycle, for a model with these kinds."""
     words = line.split()
     if words == ["cycle"]:
         return bytes([5])
@@ -92,5 +97,5 @@ def frame(line):
         raise NotUnderstood("an empty line")
     if len(words) != 4:
         raise NotUnderstood("'%s' is no reading, which has a channel, a kind, a status and a value" % line)
-    channel, kind, status = _byte(words[0], "channel"), _kind(words[1]), _byte(words[2], "status")
+    channel, kind, status = _byte(words[0], "channel"), _kind(words[1], kinds), _byte(words[2], "status")
     return _reading(channel, kind, status, *value(words[3]))

@@ -5,6 +5,7 @@ import subprocess
 
 from wire import conversation
 from wire.client import ENQ, Port, Unexpected
+from wire.models import MODELS, USUAL
 from wire.trace import named, tell
 
 
@@ -17,13 +18,13 @@ def told(box):
 
 
 @contextlib.contextmanager
-def started(command):
+def started(command, *options, readings=conversation.READINGS):
     """A box in a process of its own that has taken the readings, and the name of its line."""
-    with subprocess.Popen([command], stdin=subprocess.PIPE, stdout=subprocess.PIPE) as box:
+    with subprocess.Popen([command, *options], stdin=subprocess.PIPE, stdout=subprocess.PIPE) as box:
         try:
             name = told(box)
             # when it has answered the last line it has taken those before it
-            box.stdin.write(conversation.READINGS + b"help\n")
+            box.stdin.write(readings + b"help\n")
             box.stdin.flush()
             while not told(box).startswith("quit"):
                 pass
@@ -46,10 +47,10 @@ class Shown:
         self._last = who
 
 
-def show(part, *ports):
+def show(part, *words):
     """One part of the conversation under its name."""
     print("\n\n" + part.__doc__, end="", flush=True)
-    part(*ports)
+    part(*words)
 
 
 def attempt(command):
@@ -60,9 +61,10 @@ def attempt(command):
             print(conversation.READINGS.decode(), end="")
             with contextlib.closing(Port(first, Shown("box"))) as one, \
                     contextlib.closing(Port(second, Shown("second box"))) as two:
-                for part in conversation.stream, conversation.poll, conversation.refusal, conversation.change:
+                for part in conversation.stream, conversation.poll, conversation.refusal:
                     show(part, one)
-                show(conversation.sheet, one, two)
+                show(conversation.change, one, b"UNI,1", b"SP1,2,1E-3,5E-3")
+                show(conversation.sheet, one, two, MODELS[USUAL].sheet)
     except (Unexpected, KeyboardInterrupt) as fault:
         print()
         tell(str(fault) or "stopped")

@@ -9,8 +9,11 @@ from unittest import mock
 from wire.box import Box
 from wire.engine import EngineFault
 from wire.gauges import Gauges
-from wire.readings import REASONS
+from wire.models import MODELS
+from wire.readings import reasons
 from wire.trace import Trace
+
+KINDS = MODELS["362"].kinds
 
 
 class Stand:
@@ -32,7 +35,10 @@ class BoxTest(unittest.TestCase):
         self.engine = Stand(ticks=b"", host=[], ask=(0, b""))
         self.terminal = Stand(read=b"", look=0)
         self.shown = io.StringIO()
-        self.box = Box(self.engine, self.terminal, Stand(due=7), Trace(self.shown))
+        self.box = self.box_with(KINDS)
+
+    def box_with(self, kinds):
+        return Box(self.engine, self.terminal, Stand(due=7), Trace(self.shown), kinds)
 
     def gauge(self, line):
         """Whether a line ends the box, and what was told."""
@@ -70,7 +76,7 @@ class BoxTest(unittest.TestCase):
 
     def test_a_reading_that_is_taken(self):
         self.assertEqual(self.gauge(b"2 off\n"), (False, ""))
-        self.assertEqual(self.engine.asked, [("ask", bytes.fromhex("020206050000000000"), REASONS)])
+        self.assertEqual(self.engine.asked, [("ask", bytes.fromhex("020206050000000000"), reasons(KINDS))])
         self.assertIn("2 off", self.shown.getvalue())
 
     def test_a_reading_that_the_box_refuses_is_told(self):
@@ -96,6 +102,18 @@ class BoxTest(unittest.TestCase):
         self.assertIn("cycle", helped.getvalue())
         self.assertEqual(self.gauge(b" quit \n"), (True, ""))
         self.assertEqual(self.engine.asked, [])
+
+    def test_the_kinds_are_the_model_s(self):
+        self.box = self.box_with(MODELS["262"].kinds)
+        self.assertEqual(self.gauge(b"1 IKR11 0 1E-9\n"), (False, ""))
+        self.assertEqual(self.engine.asked[0][1], bytes.fromhex("0201" "0800" "00" "002710" "f7"))
+        self.assertRegex(self.gauge(b"1 IKR 0 1E-9\n")[1], "'IKR' .*: TPR, IKR9, .*, IKR11; nothing changed")
+        self.assertEqual(len(self.engine.asked), 1)
+        self.engine.answers["ask"] = 5, b""
+        self.assertIn("kind 0 to 8", self.gauge(b"1 9 0 1E-9\n")[1])
+        with contextlib.redirect_stdout(io.StringIO()) as helped:
+            self.gauge(b"help\n")
+        self.assertIn("TPR, IKR9, ", helped.getvalue())
 
 
 class Rounds:
@@ -128,7 +146,7 @@ class RunTest(unittest.TestCase):
         return lambda: os.write(self.writer, data)
 
     def run_box(self, *things):
-        Box(self.engine, self.terminal, Rounds(*things), Trace()).run(self.gauges)
+        Box(self.engine, self.terminal, Rounds(*things), Trace(), KINDS).run(self.gauges)
 
     def test_each_round_ticks_and_looks_until_quit(self):
         self.run_box(self.write(b"1 off\n"), bool, self.write(b"quit\ncycle\n"))
@@ -167,5 +185,5 @@ class RunTest(unittest.TestCase):
     def test_it_waits_up_to_the_next_tick(self):
         with mock.patch("select.poll") as poll:
             poll.return_value.poll.return_value = []
-            Box(self.engine, self.terminal, Stand(wait=99_500_000), Trace())._ready(self.gauges)
+            Box(self.engine, self.terminal, Stand(wait=99_500_000), Trace(), KINDS)._ready(self.gauges)
         poll.return_value.poll.assert_called_once_with(99.5)

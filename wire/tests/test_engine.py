@@ -21,7 +21,7 @@ class EngineTest(unittest.TestCase):
         return engine
 
     def test_the_model_is_asked_for(self):
-        for model, frame in {"361": "0401", "362": "0402"}.items():
+        for model, frame in {"361": "0401", "362": "0402", "262": "0403"}.items():
             self.engine("print('00' if input() == '%s' else '02')" % frame, model)
 
     def test_host_bytes_sixty_a_frame(self):

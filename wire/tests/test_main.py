@@ -33,8 +33,8 @@ class OptionsTest(unittest.TestCase):
         return told.getvalue()
 
     def test_model(self):
-        for word in "262", "0361", "TPG362", "", "36":
-            self.assertIn("--model", self.refused("--model", word))
+        for word in "263", "0361", "TPG362", "", "36", "261", "62":
+            self.assertRegex(self.refused("--model", word), "--model.*361.*362.*262")
         self.assertIn("--model", self.refused("--model"))
 
     def test_unknown_words(self):
@@ -65,7 +65,16 @@ class OptionsTest(unittest.TestCase):
     def test_what_is_left_out(self):
         chosen = main.options([])
         self.assertEqual((chosen.model, chosen.link, chosen.gauges, chosen.trace), ("362", None, None, False))
-        self.assertEqual(main.options(["--model", "361"]).model, "361")
+        for model in "361", "362", "262":
+            self.assertEqual(main.options(["--model", model]).model, model)
+
+    def test_help_names_the_models(self):
+        with contextlib.redirect_stdout(io.StringIO()) as helped, self.assertRaises(SystemExit) as end:
+            main.options(["--help"])
+        self.assertEqual(end.exception.code, 0)
+        for text in "{361,362,262}", "A TPG 361, 362 or 262 on", "362 where it is not said":
+            # a narrow screen breaks lines
+            self.assertIn(text, " ".join(helped.getvalue().split()))
 
     def test_a_link_without_a_directory_is_made_here(self):
         main.check_link("a-name-that-is-not-there")
@@ -143,8 +152,13 @@ class ServeTest(unittest.TestCase):
         name, advice = shown.splitlines()
         self.assertEqual((status, name, told), (0, "/dev/null", ""))
         self.assertRegex(advice, "TPG 361.*picocom /dev/null.* go here,")
-        self.assertEqual(self.engine.call_args[0][1], "361")
         self.heed.assert_called_once_with()
+
+    def test_engine_and_kinds_are_the_model_s(self):
+        for model, kind in {"361": "IKR", "362": "IKR", "262": "IKR9"}.items():
+            self.assertIn("A TPG %s:" % model, self.served("--model", model)[1])
+            self.assertEqual(self.engine.call_args[0][1], model)
+            self.assertEqual(self.box.call_args[0][-1][1], kind)
 
     def test_link_and_fifo_are_there_while_it_runs(self):
         link, fifo = os.path.join(self.place, "link"), os.path.join(self.place, "fifo")
@@ -158,7 +172,7 @@ class ServeTest(unittest.TestCase):
 
     def test_the_trace_is_shown_where_it_is_wanted(self):
         for words, lines in {(): 2, ("--trace",): 3}.items():
-            self.box.side_effect = lambda engine, terminal, clock, trace: trace.heard(b"PRX") or mock.MagicMock()
+            self.box.side_effect = lambda engine, terminal, clock, trace, kinds: trace.heard(b"PRX") or mock.MagicMock()
             self.assertEqual(len(self.served(*words)[1].splitlines()), lines)
 
     def test_how_it_ends(self):

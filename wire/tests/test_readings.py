@@ -1,8 +1,19 @@
 """The text of readings: what a line says, and that nothing is rounded, wrapped or guessed."""
 
+import re
 import unittest
 
-from wire.readings import HELP, LONGEST, NotUnderstood, frame, text, value
+from wire import readings
+from wire.models import MODELS
+from wire.readings import LONGEST, NotUnderstood, help_text, reasons, text, value
+
+# what TID calls the kinds from 0 on
+NEWER, OLDER = "TPR/PCR IKR PKR PBR IMR CMR/APR noSEn noid", "TPR IKR9 PKR PBR IMR CMR noSEn noid IKR11"
+NAMES = {"361": NEWER.split(), "362": NEWER.split(), "262": OLDER.split()}
+
+
+def frame(line, model="362"):
+    return readings.frame(line, MODELS[model].kinds)
 
 
 class ValueTest(unittest.TestCase):
@@ -55,14 +66,23 @@ class FrameTest(unittest.TestCase):
         self.assertEqual(frame("  2  PKR 1  -9.9999E-20 ").hex(), "0202" "0201" "01" "01869f" "ec")
 
     def test_each_kind_by_name_and_by_number(self):
-        names = "TPR/PCR IKR PKR PBR IMR CMR/APR noSEn noid".split()
-        for number, name in enumerate(names):
-            for word in name, name.lower(), name.upper(), str(number):
-                with self.subTest(word):
-                    self.assertEqual(frame("1 %s 0 1" % word)[2], number)
+        for model, names in NAMES.items():
+            for number, name in enumerate(names):
+                for word in name, name.lower(), name.upper(), str(number):
+                    with self.subTest(word, model=model):
+                        self.assertEqual(frame("1 %s 0 1" % word, model)[2], number)
+
+    def test_a_name_that_the_model_s_tid_never_sends_is_told_those_that_it_does(self):
+        every = {*NEWER.split(), *OLDER.split(), "PCR", "APR", "IKR1"}
+        for model, names in NAMES.items():
+            for word in every.difference(names):
+                told = "kind '%s' is no number and none of this model's: %s$" % (word, ", ".join(names))
+                with self.subTest(word, model=model), self.assertRaisesRegex(NotUnderstood, told):
+                    frame("1 %s 0 1" % word, model)
 
     def test_off_is_no_sensor_with_its_status(self):
-        self.assertEqual(frame("2 off").hex(), "0202" "0605" "00" "000000" "00")
+        for model in NAMES:
+            self.assertEqual(frame("2 off", model).hex(), "0202" "0605" "00" "000000" "00")
 
     def test_power_cycle(self):
         self.assertEqual(frame("cycle").hex(), "05")
@@ -116,13 +136,22 @@ class TextTest(unittest.TestCase):
         with self.assertRaises(NotUnderstood):
             frame(text(b"1 IKR 0 1\x00\n"))
 
-    def test_help_names_every_word(self):
-        for word in "off", "cycle", "help", "quit", "CMR/APR", "hPa":
-            self.assertIn(word, HELP)
+    def test_help_names_every_word_and_the_model_s_kinds(self):
+        for model, names in NAMES.items():
+            helped = help_text(MODELS[model].kinds)
+            for word in "off", "cycle", "help", "quit", "hPa", "number from 0 on: %s\n" % ", ".join(names):
+                with self.subTest(word, model=model):
+                    self.assertIn(word, helped)
 
-    def test_a_kind_that_is_none_is_told_the_names(self):
-        with self.assertRaisesRegex(NotUnderstood, "kind 'CMR' is none of TPR/PCR, .*noid"):
-            frame("1 CMR 0 1")
+    def test_what_help_gives_as_an_example_is_understood(self):
+        for model in NAMES:
+            reading, off = re.findall(r"\(([12] .*)\)", help_text(MODELS[model].kinds))
+            self.assertEqual(frame(reading, model)[:3].hex(), "020102")
+            self.assertEqual(frame(off, model)[:3].hex(), "020206")
+
+    def test_why_a_reading_is_refused_names_the_highest_kind(self):
+        for model, names in NAMES.items():
+            self.assertIn("kind 0 to %d," % (len(names) - 1), reasons(MODELS[model].kinds)[5])
 
     def test_one_cr_belongs_to_the_end(self):
         self.assertEqual(text(b"cycle\r\r\n"), "cycle<CR>")

@@ -10,11 +10,10 @@ use lib.Dec.{eqb, ltb}
 use Rattle.ground.specs.Members.{Each}
 use Rattle.ground.proofs.Cases.{never, cond-cases, at-most}
 use Rattle.text.specs.Control.{cr}
-use Rattle.gauges.specs.Readings.{withinLimits}
 use Rattle.gauges.specs.declared.reading.Reading.{Reading}
 use Rattle.settings.specs.Models.{modelOf}
 use Rattle.settings.specs.declared.model.Model.{Model}
-use Rattle.settings.specs.declared.model.Model.the-variants.{Tpg361, Tpg362}
+use Rattle.settings.specs.declared.model.Model.the-variants.{Tpg361, Tpg362, Tpg262}
 use Rattle.settings.specs.declared.model.Numbered.{Numbered}
 use Rattle.settings.specs.declared.model.Numbered.the-variants.{One, NoModel}
 use Rattle.lines.specs.Judging.{judged}
@@ -24,7 +23,7 @@ use Rattle.ports.specs.Line.{held}
 use Rattle.ports.specs.declared.Event.{Event}
 use Rattle.ports.proofs.PortLimits.{heard-event}
 use Rattle.instrument.specs.Events.{measured, applied}
-use Rattle.instrument.specs.Limits.{serialWithin}
+use Rattle.instrument.specs.Limits.{gaugeWithin, serialWithin}
 use Rattle.instrument.specs.declared.Instrument.{Instrument}
 use Rattle.tpg.specs.Answers.{number, answer, handed, leastOutput}
 use Rattle.tpg.specs.States.{stateWithin, freshBox, cycled, Sound}
@@ -62,7 +61,7 @@ module _ (s : State) where
 
   reading-tabled : (channel : ℕ) (r : Reading) → Tabled (readingCall s channel r) (refusals s (reading channel r)) []
   unfolding readingCall
-  reading-tabled channel r = by (stateWithin s) (isChannel (s .instrument .model) channel) (withinLimits r)
+  reading-tabled channel r = by (stateWithin s) (isChannel (s .instrument .model) channel) (gaugeWithin (s .instrument .model) r)
     where
       by : (a b c : Bool)
           → Tabled (cond a (cond b (cond c (handed (answer 0) (withReading s (channel - 1) r)) (handed (answer 5) s)) (handed (answer 4) s)) (handed (answer 1) s))
@@ -103,12 +102,15 @@ made-number model serial = rw (at-most serial 99999999) (by (ltb 99999999 serial
 -- and so does the call that makes a box
 pub fresh-holds : (n serial : ℕ) → number (freshCall n serial .answer) ≡ firstGiven (freshRefusals n serial)
 unfolding freshCall
-fresh-holds n serial = by (eqb n 361) (eqb n 362)
+fresh-holds n serial = by (eqb n 361) (eqb n 362) (eqb n 262)
   where
-    by : (a b : Bool) → number (made (cond a (One Tpg361) (cond b (One Tpg362) NoModel)) serial .answer) ≡ firstGiven (refuses 2 (not (a || b) || ltb 99999999 serial) ∷ [])
-    by true b = made-number Tpg361 serial
-    by false true = made-number Tpg362 serial
-    by false false = refl
+    by : (a b c : Bool)
+        → number (made (cond a (One Tpg361) (cond b (One Tpg362) (cond c (One Tpg262) NoModel))) serial .answer)
+        ≡ firstGiven (refuses 2 (not (a || b || c) || ltb 99999999 serial) ∷ [])
+    by true b c = made-number Tpg361 serial
+    by false true c = made-number Tpg362 serial
+    by false false true = made-number Tpg262 serial
+    by false false false = refl
 
 -- where it is refused, the box is "a fresh 361, serial 0"
 pub fresh-refused : (n serial : ℕ) → number (freshCall n serial .answer) ≢ 0 → freshCall n serial ≡ handed (answer 2) (freshBox Tpg361 0)
@@ -201,7 +203,7 @@ module _ (s : State) where
   -- a reading, refused or not, leaves the port and the model alone
   pub reading-keeps : (channel : ℕ) (r : Reading) → (readingCall s channel r .state .port ≡ s .port) × SameModel (readingCall s channel r)
   unfolding readingCall measured
-  reading-keeps channel r = by (stateWithin s) (isChannel (s .instrument .model) channel) (withinLimits r)
+  reading-keeps channel r = by (stateWithin s) (isChannel (s .instrument .model) channel) (gaugeWithin (s .instrument .model) r)
     where
       by : (a b c : Bool) → let o = cond a (cond b (cond c (handed (answer 0) (withReading s (channel - 1) r)) (handed (answer 5) s)) (handed (answer 4) s)) (handed (answer 1) s) in
           (o .state .port ≡ s .port) × SameModel o

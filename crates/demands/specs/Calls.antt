@@ -1,10 +1,10 @@
--- The calls on a box and the table of their answers (01, "Answer numbers of the calls").
+-- The calls on a box and the table of their answers (01, "Answer numbers of the calls"; 02, W-201).
 use Prim.Native.Nat.{ℕ, _*_}
 use mathlib.Core.List.{List, [], _∷_}
 use mathlib.Core.Bool.{Bool, cond, not, _||_}
 use lib.Dec.{eqb, ltb}
-use Rattle.gauges.specs.Readings.{withinLimits}
 use Rattle.gauges.specs.declared.reading.Reading.{Reading}
+use Rattle.instrument.specs.Limits.{gaugeWithin}
 use Rattle.tpg.specs.Answers.{leastOutput}
 use Rattle.tpg.specs.States.{stateWithin}
 use Rattle.tpg.specs.Calls.{byteCall, byteBytes, hostCall, hostBytes, tickCall, tickBytes, ticksCall, ticksBytes, isChannel, readingCall, cycleCall}
@@ -56,14 +56,14 @@ abbrev pub refusals : State → Call → List Refusal
 refusals s (byte b room) = lent s leastOutput room
 refusals s (host input room) = lent s leastOutput room
 refusals s (reading channel r) =
-    refuses 1 (not (stateWithin s)) ∷ refuses 4 (not (isChannel (s .instrument .model) channel)) ∷ refuses 5 (not (withinLimits r)) ∷ []
+    refuses 1 (not (stateWithin s)) ∷ refuses 4 (not (isChannel (s .instrument .model) channel)) ∷ refuses 5 (not (gaugeWithin (s .instrument .model) r)) ∷ []
 refusals s (tick room) = lent s leastOutput room
 refusals s (ticks n room) = lent s (leastOutput * n) room
 refusals s cycle = refuses 1 (not (stateWithin s)) ∷ []
 
--- the call that makes a box: "model not 361 or 362, or serial above 99999999"
+-- the call that makes a box: "model not 361 or 362, or serial above 99999999"; W-201: "answer 2 now allows 262"
 abbrev pub freshRefusals : ℕ → ℕ → List Refusal
-freshRefusals model serial = refuses 2 (not (eqb model 361 || eqb model 362) || ltb 99999999 serial) ∷ []
+freshRefusals model serial = refuses 2 (not (eqb model 361 || eqb model 362 || eqb model 262) || ltb 99999999 serial) ∷ []
 
 -- "Tested in the order 1 to 5": the first that is given, and 0 "otherwise"
 abbrev pub firstGiven : List Refusal → ℕ

@@ -12,8 +12,8 @@ use lib.IntN.{ℤ}
 use mathlib.Core.Logic.{_⊎_, inl, inr}
 use mathlib.Mathlib.Data.Bool.Basic.{dichotomy}
 use Rattle.ground.proofs.Cases.{never, cond-cases}
-use Rattle.gauges.specs.Readings.{withinLimits}
 use Rattle.gauges.specs.declared.reading.Reading.{Reading}
+use Rattle.instrument.specs.Limits.{gaugeWithin}
 use Rattle.tpg.specs.Answers.{number, done, leastOutput}
 use Rattle.tpg.specs.States.{stateWithin}
 use Rattle.tpg.specs.Steps.{after, said}
@@ -103,7 +103,7 @@ reading-unwritten : (s : State) (channel : ℕ) (r : Reading) → Unwritten (rea
 unfolding readingCall
 reading-unwritten s channel r =
     cond-cases Unwritten (stateWithin s) _ _
-    (λ e. cond-cases Unwritten (isChannel (s .instrument .model) channel) _ _ (λ c. cond-cases Unwritten (withinLimits r) _ _ (λ w. refl) (λ w. refl)) (λ c. refl))
+    (λ e. cond-cases Unwritten (isChannel (s .instrument .model) channel) _ _ (λ c. cond-cases Unwritten (gaugeWithin (s .instrument .model) r) _ _ (λ w. refl) (λ w. refl)) (λ c. refl))
     (λ e. refl)
 
 pub reading-told : (s : State) (f : List ℕ) (m e : ℤ) → getD f 4 0 ≤ 1 → m ≡ mantissaOf (eqb (getD f 4 0) 1) (getD f 5 0) (getD f 6 0) (getD f 7 0)

@@ -65,9 +65,9 @@ readingFrame s f = cond (leb (getD f 4 0) 1) (silent (readingCall s (getD f 1 0)
 unfoldable pub ticksFrame : State → ℕ → Exchange
 ticksFrame s n = sendingFrame s (afterTicks s n) (ticksText s n)
 
--- "01 is a 361, 02 a 362"; no model has the number 0
+-- "01 is a 361, 02 a 362"; W-201: "allows 262 (bench byte 03)"; no model has the number 0
 unfoldable pub modelNumber : ℕ → ℕ
-modelNumber b = cond (eqb b 1) 361 (cond (eqb b 2) 362 0)
+modelNumber b = cond (eqb b 1) 361 (cond (eqb b 2) 362 (cond (eqb b 3) 262 0))
 
 -- "04: fresh box, serial 0 (..; another byte is answer 2 and keeps the box)"
 unfoldable pub freshFrame : State → ℕ → Exchange

@@ -73,6 +73,9 @@ fn model_number(byte: u8) -> u32
     if byte == 2 {
         return 362;
     }
+    if byte == 3 {
+        return 262;
+    }
     0
 }
 

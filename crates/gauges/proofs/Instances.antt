@@ -7,7 +7,6 @@ use Rattle.text.specs.Text.{ascii}
 use Rattle.text.specs.Digits.{bare}
 use Rattle.numbers.specs.Numbers.{less, isBelow, isAbove}
 use Rattle.numerals.specs.Writing.{scientific}
-use Rattle.gauges.specs.Identification.{kindName}
 use Rattle.gauges.specs.Readings.{zeroValue}
 use Rattle.gauges.specs.Shown.{shownText, switched}
 
@@ -20,7 +19,3 @@ between-stays = refl
 pub status-digits : shownText (record { status = 12; value = zeroValue }) ≡ ascii "12,+0.0000E+00"
 unfolding bare scientific
 status-digits = refl
-
--- the last kinds, and a number that is none
-pub last-kinds : map kindName (5 ∷ 6 ∷ 7 ∷ 8 ∷ []) ≡ map ascii ("CMR/APR" ∷ "noSEn" ∷ "noid" ∷ "" ∷ [])
-last-kinds = refl

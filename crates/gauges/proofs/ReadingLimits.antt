@@ -1,9 +1,9 @@
 -- What the limits of a reading tell: above all that status 5 is a channel without a reading and nothing else.
-use Prim.Native.Nat.{ℕ, suc}
+use Prim.Native.Nat.{ℕ, suc, _<_}
 use mathlib.Core.Path.{_≡_, refl, sym, ap, ap₂, _∙_}
 use mathlib.Core.Bool.{Bool·beq, true, not, _&&_, _||_, and-eq-true-iff}
 use native.Mathlib.Omega.{arith}
-use borrow.Author.Tests.{eq-eqb, eqb-true}
+use borrow.Author.Tests.{eq-eqb, eqb-true, lt-ltb}
 use lib.Dec.{eqb}
 use lib.IntN.{ℤ, pos, negsuc, natAbs}
 use Rattle.ground.proofs.Cases.{beq-same}
@@ -12,9 +12,10 @@ use Rattle.numbers.specs.declared.value.Value.{Value}
 use Rattle.gauges.specs.Readings.{kindAndStatus, valueInRange, sensorAgrees, identifierAgrees, withinLimits, zeroValue, noReading}
 use Rattle.gauges.specs.declared.reading.Reading.{Reading}
 
-pub none-within : withinLimits noReading ≡ true
+-- where there is a kind 6, no reading is a reading
+pub none-within : (kinds : ℕ) → 6 < kinds → withinLimits kinds noReading ≡ true
 unfolding withinLimits
-none-within = refl
+none-within kinds h = rw (lt-ltb 6 kinds h)
 
 abs-zero : (z : ℤ) → natAbs z ≡ 0 → z ≡ pos 0
 abs-zero (pos n) e = ap pos e
@@ -28,19 +29,19 @@ zero-is v h =
     (abs-zero (v .mantissa) (eqb-true _ _ (b .0)))
     (abs-zero (v .exponent) (eqb-true _ _ (b .1)))
 
-module _ (r : Reading) (h : withinLimits r ≡ true) where
-  tests : (kindAndStatus r && valueInRange (r .value) && sensorAgrees r ≡ true) × (identifierAgrees r ≡ true)
+module _ (kinds : ℕ) (r : Reading) (h : withinLimits kinds r ≡ true) where
+  tests : (kindAndStatus kinds r && valueInRange (r .value) && sensorAgrees r ≡ true) × (identifierAgrees r ≡ true)
   unfolding withinLimits
-  tests = and-eq-true-iff (kindAndStatus r && valueInRange (r .value) && sensorAgrees r) (identifierAgrees r) .0 h
+  tests = and-eq-true-iff (kindAndStatus kinds r && valueInRange (r .value) && sensorAgrees r) (identifierAgrees r) .0 h
 
-  ranges : (kindAndStatus r && valueInRange (r .value) ≡ true) × (sensorAgrees r ≡ true)
-  ranges = and-eq-true-iff (kindAndStatus r && valueInRange (r .value)) (sensorAgrees r) .0 (tests .0)
+  ranges : (kindAndStatus kinds r && valueInRange (r .value) ≡ true) × (sensorAgrees r ≡ true)
+  ranges = and-eq-true-iff (kindAndStatus kinds r && valueInRange (r .value)) (sensorAgrees r) .0 (tests .0)
 
-  pub known : kindAndStatus r ≡ true
-  known = and-eq-true-iff (kindAndStatus r) (valueInRange (r .value)) .0 (ranges .0) .0
+  pub known : kindAndStatus kinds r ≡ true
+  known = and-eq-true-iff (kindAndStatus kinds r) (valueInRange (r .value)) .0 (ranges .0) .0
 
   pub in-range : valueInRange (r .value) ≡ true
-  in-range = and-eq-true-iff (kindAndStatus r) (valueInRange (r .value)) .0 (ranges .0) .1
+  in-range = and-eq-true-iff (kindAndStatus kinds r) (valueInRange (r .value)) .0 (ranges .0) .1
 
   sensor : (eqb (r .status) 5 ≡ eqb (r .kind) 6) × (not (eqb (r .kind) 6) || isZero (r .value) ≡ true)
   sensor =

@@ -5,7 +5,7 @@ use mathlib.Core.Bool.{Bool, true, false, cond, false≢true, _&&_, and-eq-true-
 use mathlib.Core.Logic.{_⊎_, inl, inr, ⊎-elim}
 use native.Mathlib.Omega.{arith}
 use borrow.Author.Tests.{le-leb, leb-true, eqb-true}
-use lib.Dec.{eqb, leb}
+use lib.Dec.{eqb, leb, ltb}
 use lib.IntN.{pos, negsuc, natAbs, _-ℤ_}
 use lib.ListN.{length}
 use Rattle.ground.proofs.Cases.{or-either, or-right, cond-cases}
@@ -51,11 +51,11 @@ module _ (r : Reading) (unit : ℕ) (zero : isZero (inHpa r) ≡ true) where
   unfolding scientific
   zero-stays = ap valueText shown-zero
 
-module _ (r : Reading) (unit : ℕ) (h : withinLimits r ≡ true) where
+module _ (kinds : ℕ) (r : Reading) (unit : ℕ) (h : withinLimits kinds r ≡ true) where
   to-show : valueInRange (inHpa r) ≡ true
   to-show =
       cond-cases (λ (v : Value). valueInRange v ≡ true) (eqb (r .status) 5) absentShows (r .value)
-      (λ e. refl) (λ e. in-range r h)
+      (λ e. refl) (λ e. in-range kinds r h)
 
   limits : (isNumber (inHpa r) ≡ true) × (between (negsuc 19) (pos 20) (inHpa r .exponent) ≡ true)
   limits = and-eq-true-iff (isNumber (inHpa r)) (between (negsuc 19) (pos 20) (inHpa r .exponent)) .0 to-show
@@ -88,7 +88,7 @@ module _ (r : Reading) (unit : ℕ) (h : withinLimits r ≡ true) where
   pub shown-length : length (shownText (shownOf r unit)) ≡ 13
   unfolding scientific
   shown-length =
-      let six = leb-true (r .status) 6 (and-eq-true-iff (leb (r .kind) 7) (leb (r .status) 6) .0 (known r h) .1) in
+      let six = leb-true (r .status) 6 (and-eq-true-iff (ltb (r .kind) kinds) (leb (r .status) 6) .0 (known kinds r h) .1) in
       rw (whole-digit (r .status) (omega arith))
 
 on-tests : (good low high was : Bool) → cond good (cond low true (cond high false was)) false ≡ true

@@ -1,3 +1,2 @@
 pub mod Readings
 pub mod Shown
-pub mod Identification

@@ -1,14 +1,15 @@
--- A reading of a gauge and its limits (01, "Readings, switching, streaming").
+-- A reading of a gauge and its limits (01, "Readings, switching, streaming"; 02, W-201).
+use Prim.Native.Nat.{ℕ}
 use mathlib.Core.Bool.{Bool, Bool·beq, not, _&&_, _||_}
-use lib.Dec.{leb, eqb}
+use lib.Dec.{leb, ltb, eqb}
 use lib.IntN.{pos, negsuc}
 use Rattle.numbers.specs.Numbers.{between, isZero, isNumber}
 use Rattle.numbers.specs.declared.value.Value.{Value}
 use Rattle.gauges.specs.declared.reading.Reading.{Reading}
 
--- "gauge kind 0 to 7 (...), status 0 to 6"
-abbrev pub kindAndStatus : Reading → Bool
-kindAndStatus r = leb (r .kind) 7 && leb (r .status) 6
+-- "gauge kind 0 to 7 (...), status 0 to 6"; W-201: "a new kind 8", so how many kinds there are belongs to the model
+abbrev pub kindAndStatus : ℕ → Reading → Bool
+kindAndStatus kinds r = ltb (r .kind) kinds && leb (r .status) 6
 
 -- "a signed mantissa of 0 or magnitude 10000 to 99999 and an exponent -20 to 20"; "Zero has exponent 0."
 abbrev pub valueInRange : Value → Bool
@@ -23,8 +24,8 @@ abbrev pub identifierAgrees : Reading → Bool
 identifierAgrees r = Bool·beq (eqb (r .status) 6) (eqb (r .kind) 7)
 
 -- all limits of a reading
-unfoldable pub withinLimits : Reading → Bool
-withinLimits r = kindAndStatus r && valueInRange (r .value) && sensorAgrees r && identifierAgrees r
+unfoldable pub withinLimits : ℕ → Reading → Bool
+withinLimits kinds r = kindAndStatus kinds r && valueInRange (r .value) && sensorAgrees r && identifierAgrees r
 
 -- "Zero has exponent 0."
 abbrev pub zeroValue : Value

@@ -11,8 +11,6 @@ pub struct Reading {
 }
 
 impl Reading {
-    pub const MOST_KIND: u8 = 7;
-
     // kinds and statuses that the limits tie to each other
     pub const KIND_NO_SENSOR: u8 = 6;
 
@@ -45,15 +43,15 @@ impl Reading {
         }
     }
 
-    // Whether it is a reading that a gauge can give.
-    pub fn is_within(self) -> bool
-        ensures { λ r. ⌜ r ≡ withinLimits self ⌝ }
+    // Whether it is a reading that a gauge can give, where there are so many kinds of them.
+    pub fn is_within(self, kinds: u8) -> bool
+        ensures { λ r. ⌜ r ≡ withinLimits kinds self ⌝ }
     {
         let kind = self.kind;
         let status = self.status;
         let v = self.value;
         let e = v.exponent;
-        let known = (kind <= Reading::MOST_KIND) & (status <= Reading::MOST_STATUS);
+        let known = (kind < kinds) & (status <= Reading::MOST_STATUS);
         let near = (Reading::LEAST_EXPONENT <= e) & (e <= Reading::MOST_EXPONENT);
         let absent = kind == Reading::KIND_NO_SENSOR;
         let sensor = (status == Reading::STATUS_NO_SENSOR) == absent;

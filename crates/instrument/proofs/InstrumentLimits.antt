@@ -14,12 +14,13 @@ use Rattle.ground.proofs.Tables.{tabled}
 use Rattle.ground.proofs.Ranges.{upto, upto-each, each-upto}
 use Rattle.ground.proofs.Cases.{or-right, cond-cases}
 use Rattle.ground.proofs.Members.{each-at}
-use Rattle.gauges.specs.Readings.{noReading, withinLimits}
+use Rattle.gauges.specs.Readings.{noReading}
 use Rattle.gauges.specs.Shown.{shownOf, switched}
 use Rattle.gauges.specs.declared.reading.Reading.{Reading}
 use Rattle.gauges.specs.declared.shown.Shown.{Shown}
 use Rattle.gauges.proofs.ReadingLimits.{none-within}
-use Rattle.settings.specs.Models.{channels, startsOn, follows, agrees}
+use Rattle.settings.specs.Models.{channels, firstFollowing, startsOn, follows, agrees}
+use Rattle.settings.specs.Kinds.{gaugeKinds}
 use Rattle.settings.specs.Rows.{firstNumber, switchingOf, mixed, noSwitching, row}
 use Rattle.settings.specs.Table.{TableRow, kindsOf, defaults, fieldCount, stored}
 use Rattle.settings.specs.Mnemonics.{setting}
@@ -33,6 +34,7 @@ use Rattle.settings.specs.declared.rows.Row.{Row}
 use Rattle.settings.specs.declared.Switching.{Switching}
 use Rattle.settings.specs.declared.Settings.{Settings}
 use Rattle.settings.proofs.Every.{channels-few}
+use Rattle.settings.proofs.KindNames.{absent-kind}
 use Rattle.settings.proofs.Tabled.{switching-there}
 use Rattle.settings.proofs.StoredLimits.{defaults-within, defaults-shaped}
 use Rattle.lines.specs.Judging.{judged, effect}
@@ -41,7 +43,7 @@ use Rattle.lines.specs.declared.verdict.Verdict.{Verdict}
 use Rattle.lines.specs.declared.verdict.Verdict.the-variants.{Asks, Writes, Refused}
 use Rattle.lines.proofs.WrittenLimits.{effect-shaped, effect-within}
 use Rattle.instrument.specs.Events.{eachFour, functionAt, isOn, started, following, measured, savedBy, switchesBy, written, applied}
-use Rattle.instrument.specs.Limits.{readingWithin, switchWithin, serialWithin, instrumentWithin, InstrumentShaped}
+use Rattle.instrument.specs.Limits.{gaugeWithin, readingWithin, switchWithin, serialWithin, instrumentWithin, InstrumentShaped}
 use Rattle.instrument.specs.declared.Instrument.{Instrument}
 
 -- ---- the limits, part by part
@@ -82,7 +84,7 @@ module _ (s : Instrument) where
 
 -- a status as it starts agrees with its assignment
 starts-agree : (model : Model) (a : ℕ) → agrees model a (startsOn model a) ≡ true
-starts-agree model a = or-right (leb 2 a) (Bool·beq (startsOn model a) (startsOn model a)) (self (startsOn model a))
+starts-agree model a = or-right (leb (firstFollowing model) a) (Bool·beq (startsOn model a) (startsOn model a)) (self (startsOn model a))
   where
     self : (b : Bool) → Bool·beq b b ≡ true
     self true = refl
@@ -103,7 +105,7 @@ module _ (model : Model) (serial : ℕ) (saved : Settings) where
     where
       none : (k : ℕ) → readingWithin model k (getD (noReading ∷ noReading ∷ []) k noReading) ≡ true
       none k =
-          rw (each-at (λ r. r ≡ noReading) (noReading ∷ noReading ∷ []) noReading refl (refl, (refl, tt)) k, none-within)
+          rw (each-at (λ r. r ≡ noReading) (noReading ∷ noReading ∷ []) noReading refl (refl, (refl, tt)) k, none-within (gaugeKinds model) (absent-kind model))
           (or-right (ltb k (channels model)) true refl)
 
       on : (i : ℕ) → i ≤ 3 → status (started model serial saved) i ≡ true
@@ -123,9 +125,9 @@ module _ (s : Instrument) (channel : ℕ) (r : Reading) (t : InstrumentShaped s)
   following-agrees shown w was h =
       cond-cases (λ (b : Bool). agrees (s .model) (w .assignment) b ≡ true) (follows (s .model) (w .assignment) channel)
       (switched shown (w .lower) (w .upper) was) was
-      (λ e. rw (le-leb 2 (w .assignment) (omega (arith, eqb-true (w .assignment) (channel + 2) e)))) (λ _. h)
+      (λ e. rw (le-leb (firstFollowing (s .model)) (w .assignment) (omega (arith, eqb-true (w .assignment) (channel + firstFollowing (s .model)) e)))) (λ _. h)
 
-  pub measured-within : instrumentWithin s ≡ true → channel < channels (s .model) → withinLimits r ≡ true → instrumentWithin (measured s channel r) ≡ true
+  pub measured-within : instrumentWithin s ≡ true → channel < channels (s .model) → gaugeWithin (s .model) r ≡ true → instrumentWithin (measured s channel r) ≡ true
   unfolding measured
   measured-within w c l =
       let p = instrument-parts s w in

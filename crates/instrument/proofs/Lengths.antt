@@ -5,7 +5,7 @@ use mathlib.Core.List.{List, [], _∷_, _++_, map}
 use mathlib.Core.Bool.{true, _&&_}
 use native.Mathlib.Omega.{arith}
 use native.Mathlib.Nat.{mul-le-mul-right, suc-mul}
-use borrow.Author.Tests.{leb-true, eqb-true}
+use borrow.Author.Tests.{leb-true}
 use lib.Dec.{leb, eqb}
 use lib.IntN.{ℤ}
 use lib.ListN.{length, take, length-append, length-map, length-take}
@@ -18,16 +18,16 @@ use Rattle.text.proofs.Decimals.{dig-length}
 use Rattle.numbers.specs.declared.threshold.Threshold.{Threshold}
 use Rattle.numerals.specs.Writing.{scientific, valueText}
 use Rattle.gauges.specs.Shown.{shownOf, shownText}
-use Rattle.gauges.specs.Identification.{kindNames, kindName}
 use Rattle.gauges.specs.declared.shown.Shown.{Shown}
 use Rattle.settings.specs.Models.{channels}
+use Rattle.settings.specs.Kinds.{kindNames, kindName}
 use Rattle.settings.specs.Table.{settingEntry, kinds, cells}
 use Rattle.settings.specs.Mnemonics.{setting}
 use Rattle.settings.specs.declared.model.Model.{Model}
 use Rattle.settings.specs.declared.mnemonic.Setting.{Setting}
 use Rattle.settings.specs.declared.mnemonic.Setting.the-variants.{Cal}
 use Rattle.settings.specs.declared.mnemonic.Query.{Query}
-use Rattle.settings.specs.declared.mnemonic.Query.the-variants.{Sps, Pr, Prx, Tid, Ayt, Err}
+use Rattle.settings.specs.declared.mnemonic.Query.the-variants.{Sps, Pr, Prx, Tid, Ayt, Pnr, Err}
 use Rattle.settings.specs.declared.mnemonic.Replying.{Replying}
 use Rattle.settings.specs.declared.mnemonic.Replying.the-variants.{OfSetting, Cf, OfQuery}
 use Rattle.settings.specs.declared.table.Kind.{Kind}
@@ -111,15 +111,16 @@ setting-short model s x =
 
 -- ---- the other replies
 
-kind-short : (k : ℕ) → length (kindName k) ≤ 7
+kind-short : (model : Model) (k : ℕ) → length (kindName model k) ≤ 7
 unfolding every
-kind-short k =
-    leb-true (length (kindName k)) 7
-    (each-at (λ n. leb (length n) 7 ≡ true) kindNames [] refl (every-each (λ n. leb (length n) 7) kindNames refl) k)
+kind-short model k =
+    leb-true (length (kindName model k)) 7
+    (each-at (λ n. leb (length n) 7 ≡ true) (kindNames model) [] refl
+    (every-each (λ n. leb (length n) 7) (kindNames model) (tested (λ m. every (λ n. leb (length n) 7) (kindNames m)) refl model)) k)
 
-serial-length : (model : Model) (serial : ℕ) → length (serialText model serial) ≡ 38
+serial-short : (model : Model) (serial : ℕ) → length (serialText model serial) ≤ 38
 unfolding every
-serial-length model serial = eqb-true (length (serialText model serial)) 38 (tested (λ m. eqb (length (serialText m serial)) 38) refl model)
+serial-short model serial = leb-true (length (serialText model serial)) 38 (tested (λ m. leb (length (serialText m serial)) 38) refl model)
 
 ended : (t : List ℕ) → length t ≤ 62 → length (t ++ crLf) ≤ 64
 ended t h = omega (arith, length-append t crLf)
@@ -135,8 +136,9 @@ module _ (s : Instrument) where
   query-short error Sps = omega arith
   query-short error (Pr k) = omega (arith, shown-one k)
   query-short error Prx = shown-all
-  query-short error Tid = omega (arith, channel-short (s .model) 7 (kindAt (s .readings)) (λ k. kind-short (readingAt (s .readings) k .kind)))
-  query-short error Ayt = omega (arith, serial-length (s .model) (s .serial))
+  query-short error Tid = omega (arith, channel-short (s .model) 7 (kindAt (s .model) (s .readings)) (λ k. kind-short (s .model) (readingAt (s .readings) k .kind)))
+  query-short error Ayt = omega (arith, serial-short (s .model) (s .serial))
+  query-short error Pnr = omega arith
   query-short error Err = omega arith
 
   pub reply-length : (error : Word) (a : Replying) → length (replyText s error a) ≤ 64

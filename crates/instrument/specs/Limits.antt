@@ -1,4 +1,4 @@
--- The limits of the instrument (01, "Readings, switching, streaming": "State limits").
+-- The limits of the instrument (01, "Readings, switching, streaming": "State limits"; 02, W-201).
 use Prim.Native.Nat.{ℕ}
 use mathlib.Core.Path.{_≡_}
 use mathlib.Core.List.{List}
@@ -8,15 +8,20 @@ use lib.Dec.{eqb, leb, ltb}
 use Rattle.gauges.specs.Readings.{noReading, withinLimits}
 use Rattle.gauges.specs.declared.reading.Reading.{Reading}
 use Rattle.settings.specs.Models.{channels, agrees}
+use Rattle.settings.specs.Kinds.{gaugeKinds}
 use Rattle.settings.specs.Rows.{noSwitching}
 use Rattle.settings.specs.Limits.{within, SettingsShaped}
 use Rattle.settings.specs.declared.model.Model.{Model}
 use Rattle.settings.specs.declared.Switching.{Switching}
 use Rattle.instrument.specs.declared.Instrument.{Instrument}
 
+-- W-201: "kind 8 on a 361 or 362 is answer 5": a reading that a gauge of the model's kinds can give
+abbrev pub gaugeWithin : Model → Reading → Bool
+gaugeWithin model r = withinLimits (gaugeKinds model) r
+
 -- a reading has its limits; "on a 361 channel-2 cells at their defaults": no reading
 abbrev pub readingWithin : Model → ℕ → Reading → Bool
-readingWithin model k r = withinLimits r && (ltb k (channels model) || eqb (r .kind) 6)
+readingWithin model k r = gaugeWithin model r && (ltb k (channels model) || eqb (r .kind) 6)
 
 -- the status of one switching function beside its assignment
 abbrev pub switchWithin : Model → List Switching → List Bool → ℕ → Bool

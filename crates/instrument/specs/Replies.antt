@@ -1,4 +1,4 @@
--- What a box sends of its instrument (01, "Readings, switching, streaming" and "Settings").
+-- What a box sends of its instrument (01, "Readings, switching, streaming" and "Settings"; 02, W-201).
 use Prim.Native.Nat.{ℕ}
 use Prim.Native.Char.{code}
 use mathlib.Core.List.{List, [], _∷_, _++_, map}
@@ -9,12 +9,12 @@ use Rattle.text.specs.Digits.{paddedText, binary}
 use Rattle.text.specs.Control.{crLf}
 use Rattle.gauges.specs.Readings.{noReading}
 use Rattle.gauges.specs.Shown.{shownOf, shownText}
-use Rattle.gauges.specs.Identification.{kindName}
 use Rattle.gauges.specs.declared.reading.Reading.{Reading}
 use Rattle.settings.specs.Models.{channels, names}
+use Rattle.settings.specs.Kinds.{kindName}
 use Rattle.settings.specs.declared.model.Model.{Model}
 use Rattle.settings.specs.declared.mnemonic.Query.{Query}
-use Rattle.settings.specs.declared.mnemonic.Query.the-variants.{Sps, Pr, Prx, Tid, Ayt, Err}
+use Rattle.settings.specs.declared.mnemonic.Query.the-variants.{Sps, Pr, Prx, Tid, Ayt, Pnr, Err}
 use Rattle.settings.specs.declared.mnemonic.Replying.{Replying}
 use Rattle.settings.specs.declared.mnemonic.Replying.the-variants.{OfSetting, Cf, OfQuery}
 use Rattle.lines.specs.Splitting.{joined}
@@ -33,8 +33,8 @@ abbrev pub shownAt : ℕ → List Reading → ℕ → List ℕ
 shownAt unit rs k = shownText (shownOf (readingAt rs k) unit)
 
 -- "the name of each channel's kind"
-abbrev pub kindAt : List Reading → ℕ → List ℕ
-kindAt rs k = kindName (readingAt rs k .kind)
+abbrev pub kindAt : Model → List Reading → ℕ → List ℕ
+kindAt model rs k = kindName model (readingAt rs k .kind)
 
 -- "each the model has", commas between
 unfoldable pub eachChannel : Model → (ℕ → List ℕ) → List ℕ
@@ -52,13 +52,14 @@ serialText model serial = names model ++ (code "," ∷ (paddedText serial 8 ++ a
 abbrev pub readingsText : Instrument → List ℕ
 readingsText s = eachChannel (s .model) (shownAt (s .settings .unit) (s .readings))
 
--- the replies of those that take no field; ERR sends the error word
+-- the replies of those that take no field; ERR sends the error word, and W-201: "PNR, which sends 302-510--"
 abbrev pub queryText : Instrument → Word → Query → List ℕ
 queryText s error Sps = switchesText (s .switches)
 queryText s error (Pr k) = shownAt (s .settings .unit) (s .readings) k
 queryText s error Prx = readingsText s
-queryText s error Tid = eachChannel (s .model) (kindAt (s .readings))
+queryText s error Tid = eachChannel (s .model) (kindAt (s .model) (s .readings))
 queryText s error Ayt = serialText (s .model) (s .serial)
+queryText s error Pnr = ascii "302-510--"
 queryText s error Err = wordText error
 
 -- the reply of each mnemonic that has one, "then CR LF"

@@ -12,7 +12,7 @@ fn reading_is_within(model: Model, k: usize, r: Reading) -> bool
 {
     let here = k < model.channels();
     let absent = r.kind == Reading::KIND_NO_SENSOR;
-    r.is_within() & (here | absent)
+    r.is_within(model.kinds()) & (here | absent)
 }
 
 fn switches_are_within(model: Model, w: [Switching; 4], on: [bool; 4]) -> bool

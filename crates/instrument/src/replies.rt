@@ -5,7 +5,6 @@ ghost use Rattle.text.specs.Page.{page, puts};
 ghost use Rattle.text.specs.Control.{crLf};
 ghost use Rattle.instrument.specs.Replies.{readingAt, kindAt, shownAt, eachChannel, switchesText, serialText, queryText, replyText, streamText};
 use crate::Instrument;
-use gauges::identification::write_kind;
 use gauges::reading::Reading;
 use gauges::shown::write_shown;
 use lines::replies::end_line;
@@ -22,6 +21,9 @@ use text::digits::padded;
 use text::put;
 
 const VERSIONS: [u8; 14] = *b",010100,010100";
+
+// the program number of a 262
+const PROGRAM: [u8; 9] = *b"302-510--";
 
 // the digits of a serial number
 const SERIAL_DIGITS: usize = 8;
@@ -75,21 +77,21 @@ fn write_readings(
 }
 
 // The kind of gauge of one channel.
-fn write_kind_at(out: &mut [u8], at: usize, readings: [Reading; 2], k: u8) -> usize
-    ensures { λ r. ⌜ page (now (out .exit)) r ≡ puts (page (now (out .entry)) at) (kindAt readings k) ⌝ }
+fn write_kind_at(out: &mut [u8], at: usize, model: Model, readings: [Reading; 2], k: u8) -> usize
+    ensures { λ r. ⌜ page (now (out .exit)) r ≡ puts (page (now (out .entry)) at) (kindAt model readings k) ⌝ }
 {
     let r = reading_at(readings, k);
-    write_kind(out, at, r.kind)
+    model.write_kind(out, at, r.kind)
 }
 
 // The kinds of gauge of all channels.
 fn write_kinds(out: &mut [u8], at: usize, model: Model, readings: [Reading; 2]) -> usize
-    ensures { λ r. ⌜ page (now (out .exit)) r ≡ puts (page (now (out .entry)) at) (eachChannel model (kindAt readings)) ⌝ }
+    ensures { λ r. ⌜ page (now (out .exit)) r ≡ puts (page (now (out .entry)) at) (eachChannel model (kindAt model readings)) ⌝ }
 {
-    let first = write_kind_at(out, at, readings, 0);
+    let first = write_kind_at(out, at, model, readings, 0);
     if 1 < model.channels() {
         let next = put(out, first, b',');
-        return write_kind_at(out, next, readings, 1);
+        return write_kind_at(out, next, model, readings, 1);
     }
     first
 }
@@ -119,6 +121,7 @@ impl Instrument {
             Query::Prx => write_readings(out, at, model, self.settings.unit, readings),
             Query::Tid => write_kinds(out, at, model, readings),
             Query::Ayt => write_identity(out, at, model, self.serial),
+            Query::Pnr => append(out, at, &PROGRAM),
             Query::Err => write_word(out, at, error),
         }
     }

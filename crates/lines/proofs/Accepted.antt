@@ -9,12 +9,12 @@ use borrow.Author.Tests.{ltb-true, eq-eqb, not-true}
 use lib.ListN.{length, take}
 use lib.Dec.{eqb}
 use Rattle.ground.specs.Members.{every, Each, those}
-use Rattle.ground.proofs.Cases.{never, cond-cases}
-use Rattle.ground.proofs.Members.{each-map, each-both, every-each, Pairwise, pairwise, pairwise-by}
+use Rattle.ground.proofs.Cases.{never}
+use Rattle.ground.proofs.Members.{each-map, each-both, every-each, each-those, Pairwise, pairwise, pairwise-by, pairwise-those}
 use Rattle.numbers.specs.declared.threshold.Threshold.{Threshold}
 use Rattle.settings.specs.Rows.{listed, rowOf, row}
 use Rattle.settings.specs.Table.{switchingEntry, storedEntry, settingEntry, kinds, cells}
-use Rattle.settings.specs.Mnemonics.{settingsHeld, takes, sheet, others, setting, known, name, same, found, recognised, isThere}
+use Rattle.settings.specs.Mnemonics.{settingsHeld, sheet, setting, knows, mnemonics, known, name, same, found, recognised, isThere}
 use Rattle.settings.specs.Limits.{fits, cellsFit, within}
 use Rattle.settings.specs.declared.model.Model.{Model}
 use Rattle.settings.specs.declared.mnemonic.Setting.{Setting}
@@ -130,22 +130,10 @@ module _ (model : Model) (m : Mnemonic) (sp : Spelt model m) where
 abbrev Apart : Mnemonic → Mnemonic → Type 0
 Apart m n = not (same (name m) (name n)) ≡ true
 
--- no two are alike, over one list whatever the model
-whole-apart : Pairwise Apart (map setting settingsHeld ++ others)
+-- no two are alike, whatever the model
+names-apart : Pairwise Apart mnemonics
 unfolding pairwise every same switchingEntry storedEntry
-whole-apart = pairwise-by Apart (λ m n. not (same (name m) (name n))) (λ m n e. e) (map setting settingsHeld ++ others) refl
-
-module _ (p : Setting → Bool) (ms : List Mnemonic) where
-  each-fewer : (P : Mnemonic → Type 0) (xs : List Setting) → Each P (map setting xs ++ ms) → Each P (map setting (those p xs) ++ ms)
-  each-fewer P [] e = e
-  each-fewer P (x ∷ xs) e =
-      cond-cases (λ (ys : List Setting). Each P (map setting ys ++ ms)) (p x) (x ∷ those p xs) (those p xs) (λ _. (e .0, each-fewer P xs (e .1))) (λ _. each-fewer P xs (e .1))
-
-  apart-fewer : (xs : List Setting) → Pairwise Apart (map setting xs ++ ms) → Pairwise Apart (map setting (those p xs) ++ ms)
-  apart-fewer [] d = d
-  apart-fewer (x ∷ xs) d =
-      cond-cases (λ (ys : List Setting). Pairwise Apart (map setting ys ++ ms)) (p x) (x ∷ those p xs) (those p xs)
-      (λ _. (each-fewer _ xs (d .0), apart-fewer xs (d .1))) (λ _. apart-fewer xs (d .1))
+names-apart = pairwise-by Apart (λ m n. not (same (name m) (name n))) (λ m n e. e) mnemonics refl
 
 pub same-self : (s : List ℕ) → same s s ≡ true
 unfolding same
@@ -161,23 +149,23 @@ found-apart (m ∷ ms) d = (
   each-both (Apart m) (λ n. found (name n) ms ≡ Known n) _ (λ n a e. rw (not-true (same (name m) (name n)) a) e) ms (d .0) (found-apart ms (d .1)),
 )
 
-pub all-found : (model : Model) → Each (λ m. recognised model (name m) ≡ Known m) (known model)
-unfolding known sheet recognised
-all-found model = found-apart (map setting (those (takes model) settingsHeld) ++ others) (apart-fewer (takes model) others settingsHeld whole-apart)
+all-found : (model : Model) → Each (λ m. recognised model (name m) ≡ Known m) (known model)
+unfolding known recognised
+all-found model = found-apart (those (knows model) mnemonics) (pairwise-those Apart (knows model) mnemonics names-apart)
 
 commaless : List ℕ → Bool
 commaless s = every (λ b. not (eqb b (code ","))) s
 
-all-commaless : (model : Model) → every (λ m. commaless (name m)) (known model) ≡ true
-unfolding known sheet every commaless switchingEntry storedEntry
-all-commaless = tested (λ model. every (λ m. commaless (name m)) (known model)) refl
+all-commaless : Each (λ m. commaless (name m) ≡ true) mnemonics
+unfolding every commaless switchingEntry storedEntry
+all-commaless = every-each (λ m. commaless (name m)) mnemonics refl
 
 pub all-spelt : (model : Model) → Each (Spelt model) (known model)
-unfolding commaless
+unfolding known commaless
 all-spelt model =
     each-both (λ m. commaless (name m) ≡ true) (λ m. recognised model (name m) ≡ Known m) (Spelt model)
-    (λ m p q. record { plain = each-map _ _ (λ b. not-true (eqb b (code ","))) (name m) (every-each _ (name m) p); back = q }) (known model)
-    (every-each (λ m. commaless (name m)) (known model) (all-commaless model)) (all-found model)
+    (λ m p q. record { plain = each-map _ _ (λ b. not-true (eqb b (code ","))) (name m) (every-each _ (name m) p); back = q }) (those (knows model) mnemonics)
+    (each-those _ (knows model) mnemonics all-commaless) (all-found model)
 
 all-sound : (model : Model) → every (λ x. every sound (kinds model (setting x))) settingsHeld ≡ true
 unfolding every switchingEntry storedEntry

@@ -17,12 +17,12 @@ use Rattle.settings.specs.Rows.{listed}
 use Rattle.settings.specs.Table.{switchingEntry, storedEntry, kinds, cells}
 use Rattle.settings.specs.Mnemonics.{sheet, setting, known, name, same, found, recognised}
 use Rattle.settings.specs.declared.model.Model.{Model}
-use Rattle.settings.specs.declared.model.Model.the-variants.{Tpg361, Tpg362}
+use Rattle.settings.specs.declared.model.Model.the-variants.{Tpg361, Tpg362, Tpg262}
 use Rattle.settings.specs.declared.mnemonic.Setting.the-variants.{Cal}
 use Rattle.settings.specs.declared.mnemonic.Replying.the-variants.{Cf}
 use Rattle.settings.specs.declared.mnemonic.Mnemonic.the-variants.{OfReplying}
 use Rattle.settings.specs.declared.Settings.{Settings}
-use Rattle.settings.proofs.Sheets.{others-each}
+use Rattle.settings.proofs.Sheets.{known-at}
 use Rattle.lines.specs.Splitting.{fields, joined}
 use Rattle.lines.specs.Words.{errorWord}
 use Rattle.lines.specs.Fields.{limited}
@@ -76,26 +76,51 @@ lines =
     ∷ on Tpg362 "COM," "0001"
     ∷ []
 
+-- W-201: the limits of a 262 on either side
+abbrev pub olderLines : List Line
+olderLines =
+    map (λ (t : String × String). on Tpg262 (t .0) (t .1))
+    (("UNI,2", "writes UNI,2") ∷ ("UNI,3", "0010")
+    ∷ ("FIL,2,0", "writes FIL,2,0") ∷ ("FIL,3,0", "0010") ∷ ("FIL,0,3", "0010") ∷ ("FIL,,1", "0001")
+    ∷ ("CAL,0.100,9.985", "writes CAL,0.100,9.985") ∷ ("CAL,9.990,1", "writes CAL,9.990,1.000") ∷ ("CAL,9.991,1", "0010") ∷ ("CAL,1,0.099", "0010") ∷ ("CAL,10,1", "0010")
+    ∷ ("DCD,2", "writes DCD,2") ∷ ("DCD,3", "writes DCD,3") ∷ ("DCD,1", "0010") ∷ ("DCD,4", "0010") ∷ ("DCD,2,2", "0001") ∷ ("DCD,", "0001")
+    ∷ ("SP1,0,1,2", "writes SP1,0,1.0000E+00,2.0000E+00") ∷ ("SP4,1,1,2", "writes SP4,1,1.0000E+00,2.0000E+00") ∷ ("SP1,2,1,2", "0010") ∷ ("SP1,3,1,2", "0010")
+    ∷ ("PUC,1,0", "writes PUC,1,0") ∷ ("PUC,0,2", "0010") ∷ ("PUC,1", "0001") ∷ ("PUC,1,", "0001")
+    ∷ ("DIC,1", "writes DIC,1") ∷ ("DIC,2", "0010") ∷ ("SCT,1", "writes SCT,1") ∷ ("SCT,2", "0010") ∷ ("WDT,0", "writes WDT,0") ∷ ("WDT,2", "0010")
+    ∷ ("TLC,1", "writes TLC,1") ∷ ("TLC,2", "0010") ∷ ("LOC,1", "writes LOC,1") ∷ ("LOC,2", "0010") ∷ ("LOC,", "0001")
+    ∷ ("PNR", "asks PNR") ∷ ("PNR,1", "0001") ∷ ("PR2", "asks PR2") ∷ ("COM", "writes COM,1") ∷ [])
+
+-- what each does not know, 0001 whatever follows
+abbrev unknown : Model → List String → List Line
+unknown model = map (λ (s : String). on model s "0001")
+
+abbrev pub unknownLines : List Line
+unknownLines =
+    unknown Tpg262 ("CF1" ∷ "CF2" ∷ "AYT" ∷ "ERA" ∷ "EVA" ∷ "FMT" ∷ "LNG" ∷ "NAD" ∷ "PRE" ∷ "PRO" ∷ "DCS" ∷ "BAU" ∷ "SEN" ∷ [])
+    ++ (unknown Tpg262 ("CF1,1" ∷ "CF2,1" ∷ "AYT," ∷ "ERA,0" ∷ "EVA,0" ∷ "FMT,0" ∷ "LNG,0" ∷ "NAD,1" ∷ "PRE,0" ∷ "PRO,0" ∷ "DCS,0" ∷ "BAU,1" ∷ "SEN,0,0" ∷ [])
+    ++ (unknown Tpg361 ("DIC" ∷ "SCT" ∷ "WDT" ∷ "TLC" ∷ "LOC" ∷ "PNR" ∷ [])
+    ++ unknown Tpg362 ("DIC,0" ∷ "SCT,0" ∷ "WDT,1" ∷ "TLC,0" ∷ "LOC,0" ∷ "PNR" ∷ [])))
+
 abbrev pub answers : List Line → List (List ℕ)
 answers = map (λ (l : Line). says (l .model) (judged (l .model) (ascii (l .sent))))
 
 abbrev pub expected : List Line → List (List ℕ)
 expected = map (λ (l : Line). ascii (l .said))
 
-pub lines-hold : answers lines ≡ expected lines
+pub lines-hold : map answers (lines ∷ olderLines ∷ unknownLines ∷ []) ≡ map expected (lines ∷ olderLines ∷ unknownLines ∷ [])
 unfolding bare climbWithin digits power rounded fittedTo lead rest headIs value numberOf afterPlus afterSign powerOf composed fraction afterFraction thresholdOf known same found sheet recognised switchingEntry storedEntry fields limited fieldsRead formed valued withFields judged
 lines-hold = refl
 
 -- ---- "Sending a CF1 reply back as CF1: two fields on a 362, refused."
 
-factor-spelt : (model : Model) (k : ℕ) → k < 2 → Spelt model (OfReplying (Cf k))
-factor-spelt model zero h = others-each (Spelt model) model (all-spelt model) .0
-factor-spelt model (suc zero) h = others-each (Spelt model) model (all-spelt model) .1 .0
-factor-spelt model (suc (suc k)) h = absurd (omega arith)
+factor-spelt : (k : ℕ) → k < 2 → Spelt Tpg362 (OfReplying (Cf k))
+factor-spelt zero h = known-at (Spelt Tpg362) Tpg362 (all-spelt Tpg362) 22 refl
+factor-spelt (suc zero) h = known-at (Spelt Tpg362) Tpg362 (all-spelt Tpg362) 23 refl
+factor-spelt (suc (suc k)) h = absurd (omega arith)
 
 pub factors-refused : (s : Settings) (k : ℕ) → k < 2 → judged Tpg362 (name (OfReplying (Cf k)) ++ (code "," ∷ factorsText Tpg362 s)) ≡ Refused Syntax
 unfolding settingText withFields
 factors-refused s k h =
     let ks = kinds Tpg362 (setting Cal) in
     let cs = cells Tpg362 s Cal in
-    line-fields Tpg362 (OfReplying (Cf k)) (factor-spelt Tpg362 k h) (texts ks cs) (lt-ltb k 2 h) (plain-texts ks cs)
+    line-fields Tpg362 (OfReplying (Cf k)) (factor-spelt k h) (texts ks cs) (lt-ltb k 2 h) (plain-texts ks cs)

@@ -10,7 +10,6 @@ use lib.ListN.{length, drop}
 use lib.Dec.{eqb, leb}
 use Rattle.ground.specs.Members.{Each}
 use Rattle.ground.proofs.Cases.{cond-cases, never}
-use Rattle.ground.proofs.Members.{each-map}
 use Rattle.numbers.specs.declared.threshold.Threshold.{Threshold}
 use Rattle.numerals.specs.Runs.{lead, rest, headIs}
 use Rattle.numerals.specs.Whole.{numberOf, wholeOf, factorOf}
@@ -38,7 +37,7 @@ use Rattle.settings.specs.declared.rows.Row.{Row}
 use Rattle.settings.specs.declared.Settings.{Settings}
 use Rattle.settings.proofs.Tabled.{few-kinds}
 use Rattle.settings.proofs.Storing.{Holding, stored-shaped}
-use Rattle.settings.proofs.Sheets.{OnSheet, sheet-holds, known-each}
+use Rattle.settings.proofs.Sheets.{held-holding, known-each}
 use Rattle.settings.proofs.StoredLimits.{Fitting, stored-within, factor-within}
 use Rattle.lines.specs.Splitting.{fields}
 use Rattle.lines.specs.Fields.{limited, ranged, thresholdField, read}
@@ -252,7 +251,7 @@ Kept Sav = Unit {0}
 
 -- of the others there is nothing to say
 pub known-kept : (model : Model) → Each Kept (known model)
-known-kept model = known-each Kept model (each-map (OnSheet model) Holding (λ x o. o .holding) (sheet model) (sheet-holds model)) (omega arith)
+known-kept model = known-each Kept model held-holding (omega arith)
 
 line-within : (model : Model) (s : Settings) (line : List ℕ) (m : Mnemonic) (r : Row) → SettingsShaped s → within model s ≡ true → judged model line ≡ Writes m r
     → within model (stored model s m r) ≡ true

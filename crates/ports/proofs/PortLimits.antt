@@ -27,7 +27,7 @@ use Rattle.settings.specs.declared.mnemonic.Replying.the-variants.{OfQuery}
 use Rattle.settings.specs.declared.mnemonic.Mnemonic.{Mnemonic}
 use Rattle.settings.specs.declared.mnemonic.Mnemonic.the-variants.{OfReplying, Com, Sav}
 use Rattle.settings.specs.declared.rows.Row.{Row}
-use Rattle.settings.proofs.Answerable.{first-there, query-answers}
+use Rattle.settings.proofs.Answerable.{first-there}
 use Rattle.settings.proofs.StoredLimits.{Fitting}
 use Rattle.settings.proofs.Places.{row-places}
 use Rattle.lines.specs.Words.{noError, gathered}
@@ -332,7 +332,8 @@ heard-line model p b v =
     (λ e. never (cc)) (λ _ e. cc) (λ e. never (cc)) (λ m _ e. never (cc))
 
 err-answers : (model : Model) → answers model (OfQuery Err) ≡ true
-err-answers model = sym (query-answers model Err) ∙ first-there model
+unfolding answers
+err-answers model = first-there model
 
 -- what an ENQ is answered with, in a port within its limits, is something that the model answers
 pub reply-answers : (model : Model) (p : Port) (b : ℕ) (m : Replying) (w : Word) → portWithin model p ≡ true → heard model p b .event ≡ Reply m w

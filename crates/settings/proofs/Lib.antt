@@ -1,4 +1,5 @@
 pub mod Every
+pub mod KindNames
 pub mod Tabled
 pub mod Places
 pub mod Names

@@ -1,22 +1,25 @@
 -- The sheet: it has every setting that the model takes once, and its cells decide settings that are within their limits.
-use Prim.Native.Nat.{ℕ, zero, suc, _+_, _*_, _<_}
+use Prim.Native.Nat.{ℕ, zero, suc, _+_, _-_, _*_, _<_}
 use mathlib.Core.Path.{_≡_, refl, sym, ap, _∙_, subst}
 use mathlib.Core.List.{List, [], _∷_, _++_, map}
-use mathlib.Core.Bool.{Bool, true, false, cond, not}
+use mathlib.Core.Bool.{Bool, true, false, cond, not, _&&_, and-eq-true-iff}
 use mathlib.Core.Logic.{_≢_, _⊎_, inl, inr, ⊎-elim, _↔_}
 use mathlib.Mathlib.Data.Bool.Basic.{dichotomy}
 use native.Mathlib.Omega.{arith}
+use native.Mathlib.Numerals.{add-one}
 use borrow.Author.Tests.{ltb-true, ltb-false, eqb-true, eqb-false, not-true}
 use lib.ListN.{length, getD, take, drop}
-use lib.Seq.{getD-take}
+use lib.Seq.{drop-cons, getD-take}
 use lib.Dec.{ltb, eqb}
 use Rattle.ground.specs.Members.{every, Each, those}
 use Rattle.ground.proofs.Tables.{alike}
-use Rattle.ground.proofs.Members.{each-map, each-both, each-all, each-take, each-drop, each-at, every-each, each-every, each-those, those-each, each-taken, Pairwise, pairwise, pairwise-by, pairwise-those}
+use Rattle.ground.proofs.Cases.{never}
+use Rattle.ground.proofs.Members.{each-map, each-both, each-all, each-take, each-drop, each-append, each-at, every-each, each-every, each-those, those-each, each-taken, Pairwise, pairwise, pairwise-by, pairwise-those}
 use Rattle.numbers.specs.declared.threshold.Threshold.{Threshold}
+use Rattle.settings.specs.Models.{byUnit}
 use Rattle.settings.specs.Rows.{plain, listed, row}
-use Rattle.settings.specs.Table.{kindsOf, settingEntry, fieldCount, cells}
-use Rattle.settings.specs.Mnemonics.{settingsHeld, takes, sheet, others, setting, known}
+use Rattle.settings.specs.Table.{kindsOf, switchingEntry, storedEntry, settingEntry, fieldCount, cells}
+use Rattle.settings.specs.Mnemonics.{settingsHeld, takes, sheet, knows, others, setting, mnemonics, mnemonicAt, known}
 use Rattle.settings.specs.Limits.{sameCell, fits, rowWithin, within, SettingsShaped}
 use Rattle.settings.specs.declared.model.Model.{Model}
 use Rattle.settings.specs.declared.mnemonic.Setting.{Setting}
@@ -25,6 +28,7 @@ use Rattle.settings.specs.declared.mnemonic.Mnemonic.{Mnemonic}
 use Rattle.settings.specs.declared.table.Kind.{Kind}
 use Rattle.settings.specs.declared.rows.Row.{Row}
 use Rattle.settings.specs.declared.Settings.{Settings}
+use Rattle.settings.proofs.Every.{every-model}
 use Rattle.settings.proofs.Tabled.{few, count-kinds}
 use Rattle.settings.proofs.Places.{same-cell, cell, rows-same, kindAt, row-places}
 use Rattle.settings.proofs.Storing.{Holding, rows-decide}
@@ -43,7 +47,7 @@ on-line : {x : Setting} → Holding x → getD settingsHeld (line x) Uni ≡ x
 on-line uni = refl
 on-line cal = refl
 on-line (sp k h) = alike (λ i. getD settingsHeld (line (Sp i)) Uni) Sp 4 refl k h
-on-line (kept k h) = alike (λ i. getD settingsHeld (line (Stored i)) Uni) Stored 11 refl k h
+on-line (kept k h) = alike (λ i. getD settingsHeld (line (Stored i)) Uni) Stored 16 refl k h
 
 -- what holds of all that are held holds of every setting
 pub held-each : (P : Setting → Type 0) → Each P settingsHeld → (x : Setting) → Holding x → P x
@@ -53,16 +57,16 @@ holds : Setting → Bool
 holds Uni = true
 holds Cal = true
 holds (Sp k) = ltb k 4
-holds (Stored k) = ltb k 11
+holds (Stored k) = ltb k 16
 
 holds-holding : (x : Setting) → holds x ≡ true → Holding x
 unfolding holds
 holds-holding Uni h = uni
 holds-holding Cal h = cal
 holds-holding (Sp k) h = sp k (ltb-true k 4 h)
-holds-holding (Stored k) h = kept k (ltb-true k 11 h)
+holds-holding (Stored k) h = kept k (ltb-true k 16 h)
 
-held-holding : Each Holding settingsHeld
+pub held-holding : Each Holding settingsHeld
 unfolding holds every
 held-holding = each-map (λ x. holds x ≡ true) Holding holds-holding settingsHeld (every-each holds settingsHeld refl)
 
@@ -77,6 +81,28 @@ unfolding sheet
 sheet-holds model =
     each-both Holding (λ x. takes model x ≡ true) (OnSheet model) (λ x h t. record { holding = h; taken = t }) (those (takes model) settingsHeld)
     (each-those Holding (takes model) settingsHeld held-holding) (those-each (takes model) settingsHeld)
+
+-- how many lines it has
+pub sheet-counts : (model : Model) → length (sheet model) ≡ byUnit 17 14 model
+unfolding sheet switchingEntry storedEntry
+sheet-counts = every-model (λ m. length (sheet m) ≡ byUnit 17 14 m) (refl, (refl, (refl, tt)))
+
+-- a line by its place, found by a walk over what is held
+module _ (p : Setting → Bool) (xs : List Setting) (j left : ℕ) (d : Setting) (h : j < length xs) where
+  pub line-here : p (getD xs j d) && eqb left 0 ≡ true → getD (those p (drop j xs)) left d ≡ getD xs j d
+  line-here e =
+      let b = and-eq-true-iff (p (getD xs j d)) (eqb left 0) .0 e in
+      rw (drop-cons xs j d h, b .0, eqb-true left 0 (b .1))
+
+  pub line-behind : p (getD xs j d) && eqb left 0 ≡ false
+      → getD (those p (drop j xs)) left d ≡ getD (those p (drop (j + 1) xs)) (cond (p (getD xs j d)) (left - 1) left) d
+  line-behind = rw (add-one j, drop-cons xs j d h) (by (p (getD xs j d)) left)
+    where
+      by : (t : Bool) (n : ℕ) → t && eqb n 0 ≡ false
+          → getD (cond t (getD xs j d ∷ those p (drop (suc j) xs)) (those p (drop (suc j) xs))) n d ≡ getD (those p (drop (suc j) xs)) (cond t (n - 1) n) d
+      by true zero e = never (cc)
+      by true (suc n) e = let q : n ≡ suc n - 1 = omega arith in ap (λ (k : ℕ). getD (those p (drop (suc j) xs)) k d) q
+      by false n e = refl
 
 -- what holds over the sheet holds of every setting that the model takes
 pub on-sheet : (P : Setting → Type 0) (model : Model) → Each P (sheet model) → {x : Setting} → OnSheet model x → P x
@@ -175,26 +201,39 @@ module _ (model : Model) (a b : Settings) (wa : within model a ≡ true) (wb : w
           ⊎-elim (λ (n : takes model x ≡ false). off-sheet model a x n ∙ sym (off-sheet model b x n))
           (λ (t : takes model x ≡ true). on-sheet (λ y. cells model a y ≡ cells model b y) model e (record { holding = h; taken = t })) (dichotomy (takes model x))
 
--- ---- all that are known: those of the sheet, and the others
+-- ---- all that are known: those of the sheet, and of the others what the model knows
+
+known-parts : (model : Model) → known model ≡ map setting (sheet model) ++ those (knows model) others
+unfolding known sheet
+known-parts model = by settingsHeld
+  where
+    one : (x : Setting) (t : Bool) (xs : List Setting) (ms : List Mnemonic) → ms ≡ map setting xs ++ those (knows model) others
+        → cond t (setting x ∷ ms) ms ≡ map setting (cond t (x ∷ xs) xs) ++ those (knows model) others
+    one x true xs ms e = ap (λ (l : List Mnemonic). setting x ∷ l) e
+    one x false xs ms e = e
+
+    by : (xs : List Setting) → those (knows model) (map setting xs ++ others) ≡ map setting (those (takes model) xs) ++ those (knows model) others
+    by [] = refl
+    by (x ∷ xs) = one x (takes model x) (those (takes model) xs) (those (knows model) (map setting xs ++ others)) (by xs)
 
 module _ (P : Mnemonic → Type 0) where
-  each-parts : (xs : List Setting) (ms : List Mnemonic) → Each P (map setting xs ++ ms) → Each (λ x. P (setting x)) xs × Each P ms
-  each-parts [] ms e = (tt, e)
-  each-parts (x ∷ xs) ms e = let p = each-parts xs ms (e .1) in ((e .0, p .0), p .1)
+  each-front : (xs : List Setting) (ms : List Mnemonic) → Each P (map setting xs ++ ms) → Each (λ x. P (setting x)) xs
+  each-front [] ms e = tt
+  each-front (x ∷ xs) ms e = (e .0, each-front xs ms (e .1))
 
-  each-known : (xs : List Setting) (ms : List Mnemonic) → Each (λ x. P (setting x)) xs → Each P ms → Each P (map setting xs ++ ms)
-  each-known [] ms e f = f
-  each-known (x ∷ xs) ms e f = (e .0, each-known xs ms (e .1) f)
+  each-settings : (xs : List Setting) → Each (λ x. P (setting x)) xs → Each P (map setting xs)
+  each-settings [] e = tt
+  each-settings (x ∷ xs) e = (e .0, each-settings xs (e .1))
 
   module _ (model : Model) where
     pub sheet-each : Each P (known model) → Each (λ x. P (setting x)) (sheet model)
-    unfolding known
-    sheet-each e = each-parts (sheet model) others e .0
+    sheet-each e = each-front (sheet model) (those (knows model) others) (subst (Each P) (known-parts model) e)
 
-    pub others-each : Each P (known model) → Each P others
+    -- one of all mnemonics, by its place
+    pub known-at : Each P (known model) → (i : ℕ) → knows model (mnemonicAt i) ≡ true → P (mnemonicAt i)
     unfolding known
-    others-each e = each-parts (sheet model) others e .1
+    known-at e = let t = each-taken P (knows model) mnemonics e in each-at (λ m. knows model m ≡ true → P m) mnemonics (setting Uni) (t .0) t
 
-    pub known-each : Each (λ x. P (setting x)) (sheet model) → Each P others → Each P (known model)
+    pub known-each : Each (λ x. P (setting x)) settingsHeld → Each P others → Each P (known model)
     unfolding known
-    known-each = each-known (sheet model) others
+    known-each e f = each-those P (knows model) mnemonics (each-append P (map setting settingsHeld) others (each-settings settingsHeld e) f)

@@ -29,7 +29,7 @@ pub data Holding : Setting → Type 0 where
   uni : Holding Uni
   cal : Holding Cal
   sp : (k : ℕ) → k < 4 → Holding (Sp k)
-  kept : (k : ℕ) → k < 11 → Holding (Stored k)
+  kept : (k : ℕ) → k < 16 → Holding (Stored k)
 
 -- ---- rows
 

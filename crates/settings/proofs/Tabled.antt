@@ -14,7 +14,7 @@ use Rattle.settings.specs.Table.{kindsOf, TableRow, nothing, switchings,
 use Rattle.settings.specs.declared.model.Model.{Model}
 use Rattle.settings.specs.declared.mnemonic.Setting.{Setting}
 use Rattle.settings.specs.declared.mnemonic.Setting.the-variants.{Uni, Cal, Sp, Stored}
-use Rattle.settings.specs.declared.mnemonic.Query.the-variants.{Sps, Pr, Prx, Tid, Ayt, Err}
+use Rattle.settings.specs.declared.mnemonic.Query.the-variants.{Sps, Pr, Prx, Tid, Ayt, Pnr, Err}
 use Rattle.settings.specs.declared.mnemonic.Replying.the-variants.{OfSetting, Cf, OfQuery}
 use Rattle.settings.specs.declared.mnemonic.Mnemonic.{Mnemonic}
 use Rattle.settings.specs.declared.mnemonic.Mnemonic.the-variants.{OfReplying, Com, Sav}
@@ -23,7 +23,7 @@ use Rattle.settings.specs.declared.table.Kind.the-variants.{OfWhole, OfF
 use Rattle.settings.specs.declared.table.Fields.{Fields}
 use Rattle.settings.proofs.Every.{tested, channels-few}
 
-pub stored-past : (k : ℕ) → 11 ≤ k → storedEntry k ≡ nothing
+pub stored-past : (k : ℕ) → 16 ≤ k → storedEntry k ≡ nothing
 unfolding storedEntry
 stored-past k h = List·getD-eq-default storedTable nothing h
 
@@ -49,17 +49,22 @@ pub record Numbers (f : Fields) : Type 0 where
   pub first : numeric (f .first) ≡ true
   pub others : numeric (f .others) ≡ true
 
-abbrev ofNumbers : Fields → Bool
-ofNumbers f = leb (f .count) 2 && (numeric (f .first) && numeric (f .others))
+abbrev allNumbers : Fields → Bool
+allNumbers f = leb (f .count) 2 && (numeric (f .first) && numeric (f .others))
 
-numbers-by : (f : Fields) → ofNumbers f ≡ true → Numbers f
+numbers-by : (f : Fields) → allNumbers f ≡ true → Numbers f
 numbers-by f h =
     let a = and-eq-true-iff (leb (f .count) 2) _ .0 h in
     let b = and-eq-true-iff (numeric (f .first)) (numeric (f .others)) .0 (a .1) in
     record { few = leb-true (f .count) 2 (a .0); first = b .0; others = b .1 }
 
 pub uni-numbers : (model : Model) → Numbers (settingEntry Uni .fields model)
-uni-numbers model = numbers-by _ refl
+unfolding every
+uni-numbers model = numbers-by _ (tested (λ m. allNumbers (settingEntry Uni .fields m)) refl model)
+
+pub uni-alone : (model : Model) → settingEntry Uni .fields model .count ≤ 1
+unfolding every
+uni-alone model = leb-true _ 1 (tested (λ m. leb (settingEntry Uni .fields m .count) 1) refl model)
 
 pub cal-numbers : (model : Model) → Numbers (settingEntry Cal .fields model)
 cal-numbers model = record { few = channels-few model; first = refl; others = refl }
@@ -67,14 +72,14 @@ cal-numbers model = record { few = channels-few model; first = refl; others = re
 pub stored-numbers : (model : Model) (k : ℕ) → Numbers (settingEntry (Stored k) .fields model)
 unfolding storedEntry every
 stored-numbers model k =
-    numbers-by _ (each-at (λ (e : TableRow). ofNumbers (e .fields model) ≡ true) storedTable nothing refl
-    (every-each (λ (e : TableRow). ofNumbers (e .fields model)) storedTable (tested (λ m. every (λ (e : TableRow). ofNumbers (e .fields m)) storedTable) refl model)) k)
+    numbers-by _ (each-at (λ (e : TableRow). allNumbers (e .fields model) ≡ true) storedTable nothing refl
+    (every-each (λ (e : TableRow). allNumbers (e .fields model)) storedTable (tested (λ m. every (λ (e : TableRow). allNumbers (e .fields m)) storedTable) refl model)) k)
 
 -- ---- up to three fields
 
 setting-few : (model : Model) (x : Setting) → settingEntry x .fields model .count ≤ 3
 unfolding switchingEntry
-setting-few model Uni = omega arith
+setting-few model Uni = omega (arith, uni-alone model)
 setting-few model Cal = omega (arith, channels-few model)
 setting-few model (Sp k) = cond-cases (λ (e : TableRow). e .fields model .count ≤ 3) (ltb k 4) (switchings k) nothing (λ _. omega arith) (λ _. omega arith)
 setting-few model (Stored k) = omega (arith, stored-numbers model k .few)
@@ -87,6 +92,7 @@ few model (OfReplying (OfQuery (Pr k))) = omega arith
 few model (OfReplying (OfQuery Prx)) = omega arith
 few model (OfReplying (OfQuery Tid)) = omega arith
 few model (OfReplying (OfQuery Ayt)) = omega arith
+few model (OfReplying (OfQuery Pnr)) = omega arith
 few model (OfReplying (OfQuery Err)) = omega arith
 few model Com = omega arith
 few model Sav = omega arith

@@ -1,4 +1,5 @@
 pub mod Models
+pub mod Kinds
 pub mod Rows
 pub mod Table
 pub mod Mnemonics

@@ -1,5 +1,5 @@
 -- The limits of settings on a model (01, "Readings, switching, streaming": "every value above in range, on a 361
--- channel-2 cells at their defaults and no channel-2 choice").
+-- channel-2 cells at their defaults and no channel-2 choice"; 02, W-201: "Cells a model lacks stay at their default").
 use mathlib.Core.Path.{_≡_}
 use mathlib.Core.List.{List, [], _∷_}
 use mathlib.Core.Bool.{Bool, true, false, _&&_}
@@ -66,4 +66,4 @@ within model s = every (rowWithin model s) settingsHeld
 pub record SettingsShaped (s : Settings) : Type 0 where
   pub factors : length (s .factors) ≡ 2
   pub switching : length (s .switching) ≡ 4
-  pub stored : length (s .stored) ≡ 11
+  pub stored : length (s .stored) ≡ 16

@@ -1,6 +1,7 @@
 // What a box is set to: models, mnemonics, the table of their fields and defaults, settings and their limits, and storing.
 use numbers::threshold::Threshold;
 
+pub mod kinds;
 pub mod limits;
 pub mod mnemonic;
 pub mod model;
@@ -26,6 +27,6 @@ pub struct Settings {
     // in thousandths
     pub factors: [u32; 2],
     pub switching: [Switching; 4],
-    // FIL DCD ERA EVA FMT LNG NAD PRE PRO PUC DCS
-    pub stored: [Pair; 11],
+    // FIL DCD ERA EVA FMT LNG NAD PRE PRO PUC DCS DIC SCT WDT TLC LOC
+    pub stored: [Pair; 16],
 }

@@ -82,7 +82,7 @@ impl Settings {
         let held = HELD;
         let mut all = true;
         let mut i: usize = 0;
-        while i < 17 {
+        while i < 22 {
             all = all & self.holds(model, held[i]);
             i += 1;
         }

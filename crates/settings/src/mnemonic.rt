@@ -1,17 +1,21 @@
 // The mnemonics: families that carry a number where there are several of a kind.
 ghost use mathlib.Core.Path.{_≡_};
 ghost use mathlib.Core.List.{[], _∷_};
-ghost use Prim.Native.Nat.{_<_};
-ghost use Rattle.settings.specs.Mnemonics.{sheetAt, knownAt, same, recognised, channelOf, isThere, answers, isErr};
+ghost use mathlib.Core.Bool.{cond, _&&_};
+ghost use Prim.Native.Nat.{_<_, _-_};
+ghost use lib.ListN.{length};
+ghost use Rattle.settings.specs.Mnemonics.{takes, sheet, sheetAt, knows, mnemonicAt, name, same, recognised, channelOf, isThere, answers, isErr};
+ghost use Rattle.settings.specs.declared.mnemonic.Replying.the-variants.{OfQuery};
+ghost use Rattle.settings.specs.declared.mnemonic.Mnemonic.the-variants.{OfReplying};
 use crate::model::Model;
 
-// Those of the sheet, each of which holds settings.
+// Those of the sheets, each of which holds settings.
 pub enum Setting {
     Uni,
     Cal,
     // SP1 to SP4 from 0 on
     Sp(u8),
-    // FIL DCD ERA EVA FMT LNG NAD PRE PRO PUC DCS from 0 on: only stored and answered
+    // FIL DCD ERA EVA FMT LNG NAD PRE PRO PUC DCS DIC SCT WDT TLC LOC from 0 on: only stored and answered
     Stored(u8),
 }
 
@@ -22,6 +26,7 @@ pub enum Query {
     Prx,
     Tid,
     Ayt,
+    Pnr,
     Err,
 }
 
@@ -39,7 +44,7 @@ pub enum Mnemonic {
     Sav,
 }
 
-pub(crate) const HELD: [Setting; 17] = [
+pub(crate) const HELD: [Setting; 22] = [
     Setting::Uni,
     Setting::Stored(0),
     Setting::Cal,
@@ -57,9 +62,14 @@ pub(crate) const HELD: [Setting; 17] = [
     Setting::Stored(8),
     Setting::Stored(9),
     Setting::Stored(10),
+    Setting::Stored(11),
+    Setting::Stored(12),
+    Setting::Stored(13),
+    Setting::Stored(14),
+    Setting::Stored(15),
 ];
 
-const OTHERS: [Mnemonic; 11] = [
+const OTHERS: [Mnemonic; 12] = [
     Mnemonic::OfReplying(Replying::Cf(0)),
     Mnemonic::OfReplying(Replying::Cf(1)),
     Mnemonic::OfReplying(Replying::OfQuery(Query::Sps)),
@@ -68,6 +78,7 @@ const OTHERS: [Mnemonic; 11] = [
     Mnemonic::OfReplying(Replying::OfQuery(Query::Prx)),
     Mnemonic::OfReplying(Replying::OfQuery(Query::Tid)),
     Mnemonic::OfReplying(Replying::OfQuery(Query::Ayt)),
+    Mnemonic::OfReplying(Replying::OfQuery(Query::Pnr)),
     Mnemonic::OfReplying(Replying::OfQuery(Query::Err)),
     Mnemonic::Com,
     Mnemonic::Sav,
@@ -89,28 +100,103 @@ fn spells(name: [u8; 3], a: u8, b: u8, c: u8) -> bool
     x & (y & z)
 }
 
+// How many lines of the sheet are still to pass behind a setting.
+fn still_left(left: usize, taken: bool) -> usize
+    ensures { λ r. ⌜ r ≡ cond taken (left - 1) left ⌝ }
+{
+    if taken & (0 < left) {
+        return left - 1;
+    }
+    left
+}
+
+// How many mnemonics there are on all models together.
+const ALL: usize = 34;
+
+// All of them: the settings, and behind them the others.
+fn mnemonic_at(i: usize) -> Mnemonic
+    requires { ⌜ i < 34 ⌝ }
+    ensures { λ r. ⌜ r ≡ mnemonicAt i ⌝ }
+{
+    if i < 22 {
+        return Mnemonic::OfReplying(Replying::OfSetting(HELD[i]));
+    }
+    OTHERS[i - 22]
+}
+
 impl Model {
-    // how many mnemonics a box knows
-    const KNOWN: usize = 28;
+    // How many lines a sheet of settings has.
+    pub fn sheet_length(self) -> usize
+        ensures { λ r. ⌜ r ≡ length (sheet self) ⌝ }
+    {
+        if self.is_older() { 14 } else { 17 }
+    }
+
+    // Whether the model has a field of the setting.
+    fn takes(self, x: Setting) -> bool
+        ensures { λ r. ⌜ r ≡ takes self x ⌝ }
+    {
+        let e = self.setting_entry(x);
+        let f = e.fields;
+        0 < f.count
+    }
 
     // The setting on a line of the sheet; past the last line it is the first.
     pub fn sheet_at(self, i: usize) -> Setting
         ensures { λ r. ⌜ r ≡ sheetAt self i ⌝ }
     {
-        if i < Model::SHEET_LENGTH {
-            return HELD[i];
+        let mut left = i;
+        let mut j: usize = 0;
+        while j < 22 {
+            let x = HELD[j];
+            let taken = self.takes(x);
+            if taken & (left == 0) {
+                return x;
+            }
+            left = still_left(left, taken);
+            j += 1;
         }
         Setting::Uni
     }
 
-    fn known_at(self, i: usize) -> Mnemonic
-        requires { ⌜ i < 28 ⌝ }
-        ensures { λ r. ⌜ r ≡ knownAt self i ⌝ }
+    fn knows_query(self, q: Query) -> bool
+        ensures { λ r. ⌜ r ≡ knows self (OfReplying (OfQuery q)) ⌝ }
     {
-        if i < Model::SHEET_LENGTH {
-            return Mnemonic::OfReplying(Replying::OfSetting(self.sheet_at(i)));
+        match q {
+            Query::Sps => true,
+            Query::Pr(_) => true,
+            Query::Prx => true,
+            Query::Tid => true,
+            Query::Ayt => !self.is_older(),
+            Query::Pnr => self.is_older(),
+            Query::Err => true,
         }
-        OTHERS[i - Model::SHEET_LENGTH]
+    }
+
+    fn knows(self, m: Mnemonic) -> bool
+        ensures { λ r. ⌜ r ≡ knows self m ⌝ }
+    {
+        match m {
+            Mnemonic::OfReplying(a) => match a {
+                Replying::OfSetting(x) => self.takes(x),
+                Replying::Cf(_) => !self.is_older(),
+                Replying::OfQuery(q) => self.knows_query(q),
+            },
+            Mnemonic::Com => true,
+            Mnemonic::Sav => true,
+        }
+    }
+
+    // Whether three letters are the name of a mnemonic that the model knows.
+    fn calls(self, m: Mnemonic, a: u8, b: u8, c: u8) -> bool
+        ensures { λ r. ⌜ r ≡ same (name m) (a ∷ b ∷ c ∷ []) && knows self m ⌝ }
+    {
+        let e = self.entry(m);
+        let name = e.name;
+        if spells(name, a, b, c) {
+            return self.knows(m);
+        }
+        false
     }
 
     // The mnemonic of three letters.
@@ -118,11 +204,9 @@ impl Model {
         ensures { λ r. ⌜ r ≡ recognised self (a ∷ b ∷ c ∷ []) ⌝ }
     {
         let mut i: usize = 0;
-        while i < Model::KNOWN {
-            let m = self.known_at(i);
-            let e = self.entry(m);
-            let name = e.name;
-            if spells(name, a, b, c) {
+        while i < ALL {
+            let m = mnemonic_at(i);
+            if self.calls(m, a, b, c) {
                 return Named::Known(m);
             }
             i += 1;
@@ -145,15 +229,8 @@ impl Model {
     pub fn answers(self, a: Replying) -> bool
         ensures { λ r. ⌜ r ≡ answers self a ⌝ }
     {
-        match a {
-            Replying::OfSetting(x) => {
-                let e = self.setting_entry(x);
-                let f = e.fields;
-                0 < f.count
-            }
-            Replying::Cf(_) => self.has(Mnemonic::OfReplying(a)),
-            Replying::OfQuery(_) => self.has(Mnemonic::OfReplying(a)),
-        }
+        let m = Mnemonic::OfReplying(a);
+        self.knows(m) & self.has(m)
     }
 }
 
@@ -171,6 +248,7 @@ impl Replying {
                 Query::Prx => false,
                 Query::Tid => false,
                 Query::Ayt => false,
+                Query::Pnr => false,
                 Query::Err => true,
             },
         }
@@ -189,6 +267,7 @@ impl Replying {
                 Query::Prx => 0,
                 Query::Tid => 0,
                 Query::Ayt => 0,
+                Query::Pnr => 0,
                 Query::Err => 0,
             },
         }

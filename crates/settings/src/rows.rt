@@ -58,11 +58,11 @@ fn switch_row(switching: [Switching; 4], k: u8) -> Row
     pair_row(0, 0)
 }
 
-fn stored_row(stored: [Pair; 11], k: u8) -> Row
+fn stored_row(stored: [Pair; 16], k: u8) -> Row
     ensures { λ r. ⌜ r ≡ rowOfPair (getD stored k noPair) ⌝ }
 {
     let i = k as usize;
-    if i < 11 {
+    if i < 16 {
         let p = stored[i];
         return pair_row(p.first, p.second);
     }
@@ -132,7 +132,7 @@ impl Settings {
             }
             Setting::Stored(k) => {
                 let i = k as usize;
-                if i < 11 {
+                if i < 16 {
                     s.stored[i] = Pair {
                         first: a.mantissa,
                         second: b.mantissa,

@@ -2,7 +2,7 @@
 ghost use mathlib.Core.Path.{_≡_};
 ghost use mathlib.Core.List.{[], _∷_};
 ghost use Rattle.settings.specs.Rows.{pairOf};
-ghost use Rattle.settings.specs.Table.{whole, channelChoice, factor, numbers, single, perChannel, fieldless, nothing, numbered, switchingEntry, storedEntry, settingEntry, replyingEntry, entry, on, defaults};
+ghost use Rattle.settings.specs.Table.{whole, channelChoice, factor, ofNumbers, single, perChannel, once, choosing, factors, lacking, onBoth, onNewer, onOlder, fieldless, nothing, numbered, switchingEntry, storedEntry, settingEntry, replyingEntry, entry, on, defaults};
 ghost use Rattle.settings.specs.declared.mnemonic.Replying.the-variants.{OfQuery};
 use crate::Pair;
 use crate::Settings;
@@ -36,6 +36,14 @@ pub struct Fields {
     pub count: usize,
     pub first: Kind,
     pub others: Kind,
+}
+
+// What a model has of a row of numbers: how many fields, of which kind, and the defaults of two cells.
+pub struct Column {
+    pub count: usize,
+    pub kind: Kind,
+    pub first: u32,
+    pub second: u32,
 }
 
 // A row of the table.
@@ -75,62 +83,153 @@ fn numbered(a: u8, b: u8, k: u8) -> [u8; 3]
     [a, b, 0]
 }
 
+// What a model that lacks the row has: its defaults.
+fn lacking(c: Column) -> Column
+    ensures { λ r. ⌜ r ≡ lacking c ⌝ }
+{
+    let kind = c.kind;
+    Column {
+        count: 0,
+        kind,
+        first: c.first,
+        second: c.second,
+    }
+}
+
 impl Model {
-    // 0 and 1, and from 2 on a channel.
+    // Up to the assignment of the last channel.
     fn channel_choice(self) -> Kind
         ensures { λ r. ⌜ r ≡ channelChoice self ⌝ }
     {
+        let first = self.first_following();
         Kind::OfWhole(Limits {
             least: 0,
-            most: (self.channels() as u32) + 1,
-            paired: 3,
+            most: first + ((self.channels() as u32) - 1),
+            paired: first + 1,
         })
     }
 
     fn factor(self) -> Kind
         ensures { λ r. ⌜ r ≡ factor self ⌝ }
     {
+        let most = if self.is_older() { 9990 } else { 10000 };
         Kind::OfFactor(Limits {
             least: 100,
-            most: 10000,
-            paired: 10000,
+            most,
+            paired: most,
         })
     }
 
-    // So many numbers of one kind, and the defaults of two.
-    fn numbers(self, name: [u8; 3], count: usize, kind: Kind, a: u32, b: u32) -> Entry
-        ensures { λ r. ⌜ r ≡ on self (numbers name (λ m. count) (λ m. kind) a b) ⌝ }
+    // One whole number: least, most, default.
+    fn single(self, least: u32, most: u32, default: u32) -> Column
+        ensures { λ r. ⌜ r ≡ single least most default self ⌝ }
     {
-        let fields = Fields {
+        Column {
+            count: 1,
+            kind: whole(least, most),
+            first: default,
+            second: 0,
+        }
+    }
+
+    // One for each channel.
+    fn per_channel(self, least: u32, most: u32, default: u32) -> Column
+        ensures { λ r. ⌜ r ≡ perChannel least most default self ⌝ }
+    {
+        Column {
+            count: self.channels(),
+            kind: whole(least, most),
+            first: default,
+            second: default,
+        }
+    }
+
+    // One where another model has one for each channel.
+    fn once(self, least: u32, most: u32, default: u32) -> Column
+        ensures { λ r. ⌜ r ≡ once least most default self ⌝ }
+    {
+        Column {
+            count: 1,
+            kind: whole(least, most),
+            first: default,
+            second: default,
+        }
+    }
+
+    // One choice of a channel.
+    fn choosing(self) -> Column
+        ensures { λ r. ⌜ r ≡ choosing self ⌝ }
+    {
+        Column {
+            count: 1,
+            kind: self.channel_choice(),
+            first: 0,
+            second: 0,
+        }
+    }
+
+    fn factors(self, count: usize) -> Column
+        ensures { λ r. ⌜ r ≡ factors count self ⌝ }
+    {
+        Column {
             count,
+            kind: self.factor(),
+            first: 1000,
+            second: 1000,
+        }
+    }
+
+    // A row with this column.
+    fn of_numbers(self, name: [u8; 3], c: Column) -> Entry
+        ensures { λ r. ⌜ r ≡ on self (ofNumbers name (λ m. c)) ⌝ }
+    {
+        let kind = c.kind;
+        let fields = Fields {
+            count: c.count,
             first: kind,
             others: kind,
         };
         Entry {
             name,
             fields,
-            default: pair_row(a, b),
+            default: pair_row(c.first, c.second),
         }
     }
 
-    // One whole number: least, most, default.
-    fn single(self, name: [u8; 3], least: u32, most: u32, default: u32) -> Entry
-        ensures { λ r. ⌜ r ≡ on self (single name least most default) ⌝ }
+    // A row with a column for a 361 or 362, and one for a 262.
+    fn on_both(self, name: [u8; 3], newer: Column, older: Column) -> Entry
+        ensures { λ r. ⌜ r ≡ on self (onBoth name (λ m. newer) (λ m. older)) ⌝ }
     {
-        self.numbers(name, 1, whole(least, most), default, 0)
+        if self.is_older() {
+            return self.of_numbers(name, older);
+        }
+        self.of_numbers(name, newer)
     }
 
-    // One for each channel.
-    fn per_channel(self, name: [u8; 3], least: u32, most: u32, default: u32) -> Entry
-        ensures { λ r. ⌜ r ≡ on self (perChannel name least most default) ⌝ }
+    // One that a 262 lacks.
+    fn on_newer(self, name: [u8; 3], c: Column) -> Entry
+        ensures { λ r. ⌜ r ≡ on self (onNewer name (λ m. c)) ⌝ }
     {
-        self.numbers(name, self.channels(), whole(least, most), default, default)
+        self.on_both(name, c, lacking(c))
+    }
+
+    // One that only a 262 has.
+    fn on_older(self, name: [u8; 3], c: Column) -> Entry
+        ensures { λ r. ⌜ r ≡ on self (onOlder name (λ m. c)) ⌝ }
+    {
+        self.on_both(name, lacking(c), c)
     }
 
     fn fieldless(self, name: [u8; 3]) -> Entry
         ensures { λ r. ⌜ r ≡ on self (fieldless name) ⌝ }
     {
-        self.numbers(name, 0, whole(0, 0), 0, 0)
+        let none = Column {
+            count: 0,
+            kind: whole(0, 0),
+            first: 0,
+            second: 0,
+        };
+        self.of_numbers(name, none)
     }
 
     // A number that is none of its family.
@@ -163,22 +262,31 @@ impl Model {
         self.nothing()
     }
 
-    // name, least, most, default
+    // name; least, most, default: on a 361 or 362, on a 262
     fn stored_entry(self, k: u8) -> Entry
         ensures { λ r. ⌜ r ≡ on self (storedEntry k) ⌝ }
     {
         match k {
-            0 => self.per_channel(*b"FIL", 0, 3, 2),
-            1 => self.per_channel(*b"DCD", 0, 4, 0),
-            2 => self.numbers(*b"ERA", 1, self.channel_choice(), 0, 0),
-            3 => self.single(*b"EVA", 0, 1, 0),
-            4 => self.single(*b"FMT", 0, 1, 0),
-            5 => self.single(*b"LNG", 0, 2, 0),
-            6 => self.single(*b"NAD", 1, 24, 1),
-            7 => self.single(*b"PRE", 0, 1, 0),
-            8 => self.single(*b"PRO", 0, 2, 0),
-            9 => self.single(*b"PUC", 0, 1, 0),
-            10 => self.single(*b"DCS", 0, 6, 0),
+            0 => self.on_both(
+                *b"FIL",
+                self.per_channel(0, 3, 2),
+                self.per_channel(0, 2, 1),
+            ),
+            1 => self.on_both(*b"DCD", self.per_channel(0, 4, 0), self.once(2, 3, 2)),
+            2 => self.on_newer(*b"ERA", self.choosing()),
+            3 => self.on_newer(*b"EVA", self.single(0, 1, 0)),
+            4 => self.on_newer(*b"FMT", self.single(0, 1, 0)),
+            5 => self.on_newer(*b"LNG", self.single(0, 2, 0)),
+            6 => self.on_newer(*b"NAD", self.single(1, 24, 1)),
+            7 => self.on_newer(*b"PRE", self.single(0, 1, 0)),
+            8 => self.on_newer(*b"PRO", self.single(0, 2, 0)),
+            9 => self.on_both(*b"PUC", self.once(0, 1, 0), self.per_channel(0, 1, 0)),
+            10 => self.on_newer(*b"DCS", self.single(0, 6, 0)),
+            11 => self.on_older(*b"DIC", self.single(0, 1, 0)),
+            12 => self.on_older(*b"SCT", self.single(0, 1, 0)),
+            13 => self.on_older(*b"WDT", self.single(0, 1, 1)),
+            14 => self.on_older(*b"TLC", self.single(0, 1, 0)),
+            15 => self.on_older(*b"LOC", self.single(0, 1, 0)),
             _ => self.nothing(),
         }
     }
@@ -187,8 +295,8 @@ impl Model {
         ensures { λ r. ⌜ r ≡ on self (settingEntry x) ⌝ }
     {
         match x {
-            Setting::Uni => self.single(*b"UNI", 0, 4, 4),
-            Setting::Cal => { self.numbers(*b"CAL", self.channels(), self.factor(), 1000, 1000) }
+            Setting::Uni => self.on_both(*b"UNI", self.single(0, 4, 4), self.single(0, 2, 0)),
+            Setting::Cal => self.of_numbers(*b"CAL", self.factors(self.channels())),
             Setting::Sp(k) => self.switching_entry(k),
             Setting::Stored(k) => self.stored_entry(k),
         }
@@ -203,6 +311,7 @@ impl Model {
             Query::Prx => self.fieldless(*b"PRX"),
             Query::Tid => self.fieldless(*b"TID"),
             Query::Ayt => self.fieldless(*b"AYT"),
+            Query::Pnr => self.fieldless(*b"PNR"),
             Query::Err => self.fieldless(*b"ERR"),
         }
     }
@@ -212,7 +321,7 @@ impl Model {
     {
         match a {
             Replying::OfSetting(x) => self.setting_entry(x),
-            Replying::Cf(k) => self.numbers(numbered(b'C', b'F', k), 1, self.factor(), 0, 0),
+            Replying::Cf(k) => self.of_numbers(numbered(b'C', b'F', k), self.factors(1)),
             Replying::OfQuery(q) => self.query_entry(q),
         }
     }
@@ -223,8 +332,8 @@ impl Model {
     {
         match m {
             Mnemonic::OfReplying(a) => self.replying_entry(a),
-            Mnemonic::Com => self.single(*b"COM", 0, 2, 1),
-            Mnemonic::Sav => self.single(*b"SAV", 0, 1, 0),
+            Mnemonic::Com => self.of_numbers(*b"COM", self.single(0, 2, 1)),
+            Mnemonic::Sav => self.of_numbers(*b"SAV", self.single(0, 1, 0)),
         }
     }
 
@@ -269,6 +378,11 @@ impl Model {
                 self.preset(Setting::Stored(8)),
                 self.preset(Setting::Stored(9)),
                 self.preset(Setting::Stored(10)),
+                self.preset(Setting::Stored(11)),
+                self.preset(Setting::Stored(12)),
+                self.preset(Setting::Stored(13)),
+                self.preset(Setting::Stored(14)),
+                self.preset(Setting::Stored(15)),
             ],
         }
     }

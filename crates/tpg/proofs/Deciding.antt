@@ -6,8 +6,8 @@ use mathlib.Core.Bool.{Bool, true, false, cond, and-true, and-eq-true-iff}
 use borrow.Author.Tests.{leb-true, le-leb}
 use lib.ListN.{length}
 use lib.Dec.{leb}
-use Rattle.gauges.specs.Readings.{withinLimits}
 use Rattle.gauges.specs.declared.reading.Reading.{Reading}
+use Rattle.instrument.specs.Limits.{gaugeWithin}
 use Rattle.tpg.specs.Answers.{answer, handed, leastOutput}
 use Rattle.tpg.specs.States.{stateWithin}
 use Rattle.tpg.specs.Steps.{sent, after, said, taken, over}
@@ -59,11 +59,11 @@ module _ (s : State) (channel : ℕ) (r : Reading) where
   unfolding readingCall
   elsewhere e c = rw (e, c)
 
-  pub outside : stateWithin s ≡ true → isChannel (s .instrument .model) channel ≡ true → withinLimits r ≡ false → handed (answer 5) s ≡ readingCall s channel r
+  pub outside : stateWithin s ≡ true → isChannel (s .instrument .model) channel ≡ true → gaugeWithin (s .instrument .model) r ≡ false → handed (answer 5) s ≡ readingCall s channel r
   unfolding readingCall
   outside e c w = rw (e, c, w)
 
-  pub accepted : stateWithin s ≡ true → isChannel (s .instrument .model) channel ≡ true → withinLimits r ≡ true
+  pub accepted : stateWithin s ≡ true → isChannel (s .instrument .model) channel ≡ true → gaugeWithin (s .instrument .model) r ≡ true
       → handed (answer 0) (withReading s (channel - 1) r) ≡ readingCall s channel r
   unfolding readingCall
   accepted e c w = rw (e, c, w)

@@ -3,8 +3,8 @@ use Prim.Native.Nat.{ℕ, _-_}
 use mathlib.Core.Path.{_≡_, refl, ap}
 use mathlib.Core.List.{List, [], _∷_, map}
 use mathlib.Core.Bool.{Bool, true, false, cond}
-use Rattle.gauges.specs.Readings.{withinLimits}
 use Rattle.gauges.specs.declared.reading.Reading.{Reading}
+use Rattle.instrument.specs.Limits.{gaugeWithin}
 use Rattle.tpg.specs.Answers.{number, table, answer, handed}
 use Rattle.tpg.specs.States.{stateWithin, cycled}
 use Rattle.tpg.specs.Steps.{over}
@@ -35,7 +35,7 @@ module _ (s : State) where
 
   pub reading-back : (channel : ℕ) (r : Reading) → Back s (readingCall s channel r)
   unfolding readingCall
-  reading-back channel r = by (stateWithin s) (isChannel (s .instrument .model) channel) (withinLimits r)
+  reading-back channel r = by (stateWithin s) (isChannel (s .instrument .model) channel) (gaugeWithin (s .instrument .model) r)
     where
       by : (a b c : Bool) → Back s (cond a (cond b (cond c (handed (answer 0) (withReading s (channel - 1) r)) (handed (answer 5) s)) (handed (answer 4) s)) (handed (answer 1) s))
       by false b c n = refl

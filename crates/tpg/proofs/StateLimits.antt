@@ -5,7 +5,6 @@ use mathlib.Core.List.{List, [], _∷_}
 use mathlib.Core.Bool.{true, and-eq-true-iff}
 use native.Mathlib.Omega.{arith}
 use Rattle.ground.proofs.Cases.{cond-cases, in-range}
-use Rattle.gauges.specs.Readings.{withinLimits}
 use Rattle.gauges.specs.declared.reading.Reading.{Reading}
 use Rattle.settings.specs.Models.{modelOf, channels}
 use Rattle.settings.specs.Table.{defaults}
@@ -22,7 +21,7 @@ use Rattle.ports.specs.declared.Event.{Event}
 use Rattle.ports.specs.declared.Event.the-variants.{Silent, Line, Reply}
 use Rattle.ports.proofs.PortLimits.{fresh-shaped, fresh-within, heard-line, heard-shaped, heard-within, ticked-shaped, ticked-within}
 use Rattle.instrument.specs.Events.{measured, written, applied}
-use Rattle.instrument.specs.Limits.{instrumentWithin, serialWithin, InstrumentShaped}
+use Rattle.instrument.specs.Limits.{gaugeWithin, instrumentWithin, serialWithin, InstrumentShaped}
 use Rattle.instrument.specs.declared.Instrument.{Instrument}
 use Rattle.instrument.proofs.InstrumentLimits.{applied-shaped, applied-within, measured-shaped, measured-within, instrument-parts, started-shaped, started-within}
 use Rattle.tpg.specs.Answers.{answer, handed, leastOutput}
@@ -143,7 +142,7 @@ module _ (s : State) (k : Sound s) where
   pub ticks-sound : (n room : ℕ) → Sound (ticksCall s n room .state)
   ticks-sound n room = roomed-sound (leastOutput * n) room (allCounted s n) (after-ticks-sound n s k)
 
-  read-sound : (channel : ℕ) (r : Reading) → isChannel (s .instrument .model) channel ≡ true → withinLimits r ≡ true → Sound (withReading s (channel - 1) r)
+  read-sound : (channel : ℕ) (r : Reading) → isChannel (s .instrument .model) channel ≡ true → gaugeWithin (s .instrument .model) r ≡ true → Sound (withReading s (channel - 1) r)
   unfolding measured
   read-sound channel r c w =
       let low = in-range 1 (channels (s .instrument .model)) channel c in
@@ -159,7 +158,7 @@ module _ (s : State) (k : Sound s) where
       let P : Outcome → Type 0 = λ o. Sound (o .state) in
       cond-cases P (stateWithin s) _ (handed (answer 1) s)
       (λ _. cond-cases P (isChannel (s .instrument .model) channel) _ (handed (answer 4) s)
-      (λ c. cond-cases P (withinLimits r) (handed (answer 0) (withReading s (channel - 1) r)) (handed (answer 5) s) (λ w. read-sound channel r c w) (λ _. k)) (λ _. k)) (λ _. k)
+      (λ c. cond-cases P (gaugeWithin (s .instrument .model) r) (handed (answer 0) (withReading s (channel - 1) r)) (handed (answer 5) s) (λ w. read-sound channel r c w) (λ _. k)) (λ _. k)) (λ _. k)
 
   pub cycle-sound : Sound (cycleCall s .state)
   unfolding cycleCall

@@ -1,11 +1,10 @@
--- The calls (01, "What the box answers to" and "Answer numbers of the calls"): "Tested in the order 1 to 5."
+-- The calls (01, "What the box answers to" and "Answer numbers of the calls"; 02, W-201): "Tested in the order 1 to 5."
 use Prim.Native.Nat.{ℕ, zero, suc, _-_, _*_}
 use mathlib.Core.List.{List, [], _++_}
 use mathlib.Core.Bool.{Bool, cond, _&&_}
 use lib.ListN.{length, take}
 use lib.Dec.{leb}
 use Rattle.ground.specs.Ranges.{inRange}
-use Rattle.gauges.specs.Readings.{withinLimits}
 use Rattle.gauges.specs.declared.reading.Reading.{Reading}
 use Rattle.settings.specs.Models.{modelOf, channels}
 use Rattle.settings.specs.declared.model.Model.{Model}
@@ -14,7 +13,7 @@ use Rattle.settings.specs.declared.model.Numbered.{Numbered}
 use Rattle.settings.specs.declared.model.Numbered.the-variants.{One, NoModel}
 use Rattle.ports.specs.Stream.{ticked}
 use Rattle.instrument.specs.Events.{measured}
-use Rattle.instrument.specs.Limits.{serialWithin}
+use Rattle.instrument.specs.Limits.{gaugeWithin, serialWithin}
 use Rattle.instrument.specs.Replies.{streamText}
 use Rattle.instrument.specs.declared.Instrument.{Instrument}
 use Rattle.tpg.specs.Answers.{answer, handed, done, leastOutput}
@@ -135,7 +134,7 @@ unfoldable pub readingCall : State → ℕ → Reading → Outcome
 readingCall s channel r =
     cond (stateWithin s)
     (cond (isChannel (s .instrument .model) channel)
-    (cond (withinLimits r) (handed (answer 0) (withReading s (channel - 1) r)) (handed (answer 5) s))
+    (cond (gaugeWithin (s .instrument .model) r) (handed (answer 0) (withReading s (channel - 1) r)) (handed (answer 5) s))
     (handed (answer 4) s))
     (handed (answer 1) s)
 

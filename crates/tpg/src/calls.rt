@@ -68,7 +68,7 @@ impl State {
         };
         if self.admits(NO_OUTPUT, 0) {
             if (1 <= channel) & ((channel as usize) <= model.channels()) {
-                if r.is_within() {
+                if r.is_within(model.kinds()) {
                     return self.with_reading(channel - 1, r);
                 }
                 return self.with_answer(Answer::BadReading);

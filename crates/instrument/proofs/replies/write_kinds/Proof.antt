@@ -31,8 +31,8 @@ returns c =
     let w = i .before .before .before .before in
     let a = w .before .before .before .args in
     let comma = u .put .ensures ∙ ap (λ (p : Page). put p 44) (w .write-kind-at .ensures) in
-    k .write-kind-at2 .ensures ∙ ap (λ (p : Page). puts p (kindAt (a .readings) 1)) comma
-    ∙ puts-two (a .model) (kindAt (a .readings)) (page (a .out .now) (a .at)) (n .result) (n .ensures) (i .if1 .taken)
+    k .write-kind-at2 .ensures ∙ ap (λ (p : Page). puts p (kindAt (a .model) (a .readings) 1)) comma
+    ∙ puts-two (a .model) (kindAt (a .model) (a .readings)) (page (a .out .now) (a .at)) (n .result) (n .ensures) (i .if1 .taken)
 
 same-length-2 : tie.Need-same-length-2
 same-length-2 c = search needs
@@ -41,7 +41,7 @@ returns-2 : tie.Need-returns-2
 returns-2 c =
     let a = c .before .before .before .before .before .before .before .args in
     let n = c .before .channels in
-    c .before .before .before .before .write-kind-at .ensures ∙ puts-one (a .model) (kindAt (a .readings)) (page (a .out .now) (a .at)) (n .result) (n .ensures) (c .if1 .left)
+    c .before .before .before .before .write-kind-at .ensures ∙ puts-one (a .model) (kindAt (a .model) (a .readings)) (page (a .out .now) (a .at)) (n .result) (n .ensures) (c .if1 .left)
 
 pub write-kinds-spec : {M : Type 1} → statement M
 write-kinds-spec =

@@ -14,10 +14,10 @@ use Rattle.settings.proofs.Settings.is_within.Statement.{statement}
 use Rattle.settings.proofs.Settings.is_within.Tie as tie
 
 abbrev Inv-loop : tie.InvT-loop
-Inv-loop self model table all₀ i₀ all i = (i ≤ 17) × (all && every (rowWithin model self) (take (17 - i) (drop i settingsHeld)) ≡ within model self)
+Inv-loop self model table all₀ i₀ all i = (i ≤ 22) × (all && every (rowWithin model self) (take (22 - i) (drop i settingsHeld)) ≡ within model self)
 
 abbrev μ-loop : tie.MeasureT-loop
-μ-loop self model table all₀ i₀ all i = 17 - i
+μ-loop self model table all₀ i₀ all i = 22 - i
 
 loop-holds : tie.Need-loop-holds Inv-loop μ-loop
 unfolding within
@@ -43,13 +43,13 @@ loop-again c =
     let l = c .before .before .before .loop in
     let a = c .before .before .before .before .args in
     let p = rowWithin (a .model) (a .self) in
-    (omega arith, rw (c .holds .ensures) (range-next p Uni settingsHeld (l .i) 17 (l .all) (c .before .before .loop-test .taken) (omega arith)) ∙ l .inv .1)
+    (omega arith, rw (c .holds .ensures) (range-next p Uni settingsHeld (l .i) 22 (l .all) (c .before .before .loop-test .taken) (omega arith)) ∙ l .inv .1)
 
 returns : tie.Need-returns Inv-loop μ-loop
 returns c =
     let l = c .before .loop in
     let a = c .before .before .args in
-    sym (range-end (rowWithin (a .model) (a .self)) Uni settingsHeld (l .i) 17 (l .all) (c .loop-test .left)) ∙ l .inv .1
+    sym (range-end (rowWithin (a .model) (a .self)) Uni settingsHeld (l .i) 22 (l .all) (c .loop-test .left)) ∙ l .inv .1
 
 pub is-within-spec : {M : Type 1} → statement M
 is-within-spec =

@@ -67,7 +67,7 @@ returns-6 : tie.Need-returns-6
 returns-6 c =
     let a = c .before .before .before .before .before .before .before .args in
     let x = c .before .before .x2 .given in
-    let n : length (a .self .stored) ≡ 11 = search (needs, length-mapped) in
+    let n : length (a .self .stored) ≡ 16 = search (needs, length-mapped) in
     rw (x .1) (ap (withStored (a .self)) (sym (set-out (a .self .stored) (x .0 .0) (pairOf (a .r)) (omega arith))))
 
 pub with-row-spec : {M : Type 1} → statement M

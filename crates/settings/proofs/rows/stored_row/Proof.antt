@@ -25,7 +25,7 @@ pair-row-requires-2 c κs = search needs
 returns-2 : tie.Need-returns-2
 returns-2 c =
     let a = c .before .before .args in
-    let n : length (a .t1) ≡ 11 = search needs in
+    let n : length (a .t1) ≡ 16 = search needs in
     c .pair-row2 .ensures ∙ sym (ap rowOfPair (List·getD-eq-default (a .t1) noPair (omega arith)))
 
 pub stored-row-spec : {M : Type 1} → statement M

@@ -32,6 +32,9 @@ enum-told-7 c = search needs
 enum-told-8 : tie.Need-enum-told-8
 enum-told-8 c = search needs
 
+enum-told-9 : tie.Need-enum-told-9
+enum-told-9 c = search needs
+
 returns : tie.Need-returns
 returns c = rw (c .enum-told .given .1) (setting-not-err (c .enum-told .given .0 .0))
 
@@ -63,6 +66,10 @@ returns-8 : tie.Need-returns-8
 unfolding isErr same
 returns-8 c = rw (c .before .before .before .self .given .1, c .enum-told8 .given .1)
 
+returns-9 : tie.Need-returns-9
+unfolding isErr same
+returns-9 c = rw (c .before .before .before .self .given .1, c .enum-told9 .given .1)
+
 pub is-err-spec : {M : Type 1} → statement M
 is-err-spec =
     tie.close
@@ -76,6 +83,7 @@ is-err-spec =
     enum-told-6
     enum-told-7
     enum-told-8
+    enum-told-9
     returns
     returns-2
     returns-3
@@ -83,4 +91,5 @@ is-err-spec =
     returns-5
     returns-6
     returns-7
-    returns-8)
+    returns-8
+    returns-9)

@@ -1,21 +1,48 @@
--- No model has more than two channels (`channels-few`), so the sum fits.
+-- No model has more than two channels (`channels-few`) and all have one (`first-there`), so the sums fit (`first-few`).
 use Prim.Native.Nat.{_≤_}
 use borrow.Author.Needs.{needs}
-use Rattle.settings.proofs.Every.{channels-few}
+use Rattle.settings.proofs.Every.{channels-few, channels-some, first-few}
 use Rattle.settings.proofs.model.Model.channel_choice.Statement.{statement}
 use Rattle.settings.proofs.model.Model.channel_choice.Tie as tie
+
+first-following-requires : tie.Need-first-following-requires
+first-following-requires c κs = search needs
 
 channels-requires : tie.Need-channels-requires
 channels-requires c κs = search needs
 
-cast-t3 : tie.Need-cast-t3
-cast-t3 c = let h : c .channels .result ≤ 2 = rw (c .channels .ensures) (channels-few (c .before .args .self)) in search needs
+cast-t4 : tie.Need-cast-t4
+cast-t4 c =
+    let few : c .channels .result ≤ 2 = rw (c .channels .ensures) (channels-few (c .before .before .args .self)) in
+    let some : 1 ≤ c .channels .result = rw (c .channels .ensures) (channels-some (c .before .before .args .self)) in
+    let first : c .before .first-following .result ≤ 2 = rw (c .before .first-following .ensures) (first-few (c .before .before .args .self)) in
+    search needs
 
-add-t4 : tie.Need-add-t4
-add-t4 c = let h : c .channels .result ≤ 2 = rw (c .channels .ensures) (channels-few (c .before .args .self)) in search needs
+sub-t5 : tie.Need-sub-t5
+sub-t5 c =
+    let few : c .channels .result ≤ 2 = rw (c .channels .ensures) (channels-few (c .before .before .args .self)) in
+    let some : 1 ≤ c .channels .result = rw (c .channels .ensures) (channels-some (c .before .before .args .self)) in
+    let first : c .before .first-following .result ≤ 2 = rw (c .before .first-following .ensures) (first-few (c .before .before .args .self)) in
+    search needs
+
+add-t6 : tie.Need-add-t6
+add-t6 c =
+    let few : c .channels .result ≤ 2 = rw (c .channels .ensures) (channels-few (c .before .before .args .self)) in
+    let some : 1 ≤ c .channels .result = rw (c .channels .ensures) (channels-some (c .before .before .args .self)) in
+    let first : c .before .first-following .result ≤ 2 = rw (c .before .first-following .ensures) (first-few (c .before .before .args .self)) in
+    search needs
+
+add-t7 : tie.Need-add-t7
+add-t7 c =
+    let few : c .channels .result ≤ 2 = rw (c .channels .ensures) (channels-few (c .before .before .args .self)) in
+    let some : 1 ≤ c .channels .result = rw (c .channels .ensures) (channels-some (c .before .before .args .self)) in
+    let first : c .before .first-following .result ≤ 2 = rw (c .before .first-following .ensures) (first-few (c .before .before .args .self)) in
+    search needs
 
 returns : tie.Need-returns
-returns c = rw (c .channels .ensures)
+returns c = rw (c .channels .ensures, c .before .first-following .ensures)
 
 pub channel-choice-spec : {M : Type 1} → statement M
-channel-choice-spec = tie.close (tie.spec channels-requires cast-t3 add-t4 returns)
+channel-choice-spec =
+    tie.close
+    (tie.spec first-following-requires channels-requires cast-t4 sub-t5 add-t6 add-t7 returns)

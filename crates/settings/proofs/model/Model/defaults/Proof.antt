@@ -1,6 +1,8 @@
 -- Each number is the default of its row.
+use mathlib.Core.List.{[], _∷_}
+use lib.ListN.{replicate}
 use borrow.Author.Needs.{needs}
-use Rattle.settings.specs.Table.{storedEntry}
+use Rattle.settings.specs.Table.{storedEntry, defaultSwitching}
 use Rattle.settings.proofs.model.Model.defaults.Statement.{statement}
 use Rattle.settings.proofs.model.Model.defaults.Tie as tie
 
@@ -43,9 +45,46 @@ preset-requires-12 c κs = search needs
 preset-requires-13 : tie.Need-preset-requires-13
 preset-requires-13 c κs = search needs
 
+preset-requires-14 : tie.Need-preset-requires-14
+preset-requires-14 c κs = search needs
+
+preset-requires-15 : tie.Need-preset-requires-15
+preset-requires-15 c κs = search needs
+
+preset-requires-16 : tie.Need-preset-requires-16
+preset-requires-16 c κs = search needs
+
+preset-requires-17 : tie.Need-preset-requires-17
+preset-requires-17 c κs = search needs
+
+preset-requires-18 : tie.Need-preset-requires-18
+preset-requires-18 c κs = search needs
+
 returns : tie.Need-returns
 unfolding storedEntry
-returns c = rw (c .preset13 .ensures, c .before .preset12 .ensures, c .before .before .preset11 .ensures, c .before .before .before .preset10 .ensures, c .before .before .before .before .preset9 .ensures, c .before .before .before .before .before .preset8 .ensures, c .before .before .before .before .before .before .preset7 .ensures, c .before .before .before .before .before .before .before .preset6 .ensures, c .before .before .before .before .before .before .before .before .preset5 .ensures, c .before .before .before .before .before .before .before .before .before .preset4 .ensures, c .before .before .before .before .before .before .before .before .before .before .preset3 .ensures, c .before .before .before .before .before .before .before .before .before .before .before .preset2 .ensures, c .before .before .before .before .before .before .before .before .before .before .before .before .preset .ensures)
+returns c = λ i. record {
+  unit = (c .before .before .before .before .before .before .before .before .before .before .before .before .before .before .before .before .before .preset .ensures i) .first;
+  factors = (c .before .before .before .before .before .before .before .before .before .before .before .before .before .before .before .before .preset2 .ensures i) .first ∷ (c .before .before .before .before .before .before .before .before .before .before .before .before .before .before .before .before .preset2 .ensures i) .second ∷ [];
+  switching = replicate 4 defaultSwitching;
+  stored =
+      c .before .before .before .before .before .before .before .before .before .before .before .before .before .before .before .preset3 .ensures i
+      ∷ c .before .before .before .before .before .before .before .before .before .before .before .before .before .before .preset4 .ensures i
+      ∷ c .before .before .before .before .before .before .before .before .before .before .before .before .before .preset5 .ensures i
+      ∷ c .before .before .before .before .before .before .before .before .before .before .before .before .preset6 .ensures i
+      ∷ c .before .before .before .before .before .before .before .before .before .before .before .preset7 .ensures i
+      ∷ c .before .before .before .before .before .before .before .before .before .before .preset8 .ensures i
+      ∷ c .before .before .before .before .before .before .before .before .before .preset9 .ensures i
+      ∷ c .before .before .before .before .before .before .before .before .preset10 .ensures i
+      ∷ c .before .before .before .before .before .before .before .preset11 .ensures i
+      ∷ c .before .before .before .before .before .before .preset12 .ensures i
+      ∷ c .before .before .before .before .before .preset13 .ensures i
+      ∷ c .before .before .before .before .preset14 .ensures i
+      ∷ c .before .before .before .preset15 .ensures i
+      ∷ c .before .before .preset16 .ensures i
+      ∷ c .before .preset17 .ensures i
+      ∷ c .preset18 .ensures i
+      ∷ [];
+}
 
 pub defaults-spec : {M : Type 1} → statement M
 defaults-spec =
@@ -64,4 +103,9 @@ defaults-spec =
     preset-requires-11
     preset-requires-12
     preset-requires-13
+    preset-requires-14
+    preset-requires-15
+    preset-requires-16
+    preset-requires-17
+    preset-requires-18
     returns)

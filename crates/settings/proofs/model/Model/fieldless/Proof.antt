@@ -6,11 +6,11 @@ use Rattle.settings.proofs.model.Model.fieldless.Tie as tie
 whole-requires : tie.Need-whole-requires
 whole-requires c κs = search needs
 
-numbers-requires : tie.Need-numbers-requires
-numbers-requires c κs = search needs
+of-numbers-requires : tie.Need-of-numbers-requires
+of-numbers-requires c κs = search needs
 
 returns : tie.Need-returns
-returns c = rw (c .numbers .ensures, c .before .whole .ensures)
+returns c = rw (c .of-numbers .ensures, c .before .whole .ensures)
 
 pub fieldless-spec : {M : Type 1} → statement M
-fieldless-spec = tie.close (tie.spec whole-requires numbers-requires returns)
+fieldless-spec = tie.close (tie.spec whole-requires of-numbers-requires returns)

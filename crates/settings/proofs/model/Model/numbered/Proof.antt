@@ -1,4 +1,4 @@
--- 361 and 362 give their models, and any other number gives none.
+-- 361, 362 and 262 give their models, and any other number gives none.
 use borrow.Author.Tests.{eq-eqb, ne-eqb}
 use Rattle.settings.proofs.model.Model.numbered.Statement.{statement}
 use Rattle.settings.proofs.model.Model.numbered.Tie as tie
@@ -10,7 +10,10 @@ returns-2 : tie.Need-returns-2
 returns-2 c = rw (ne-eqb _ _ (c .before .if1 .left), eq-eqb _ _ (c .if2 .taken))
 
 returns-3 : tie.Need-returns-3
-returns-3 c = rw (ne-eqb _ _ (c .before .if1 .left), ne-eqb _ _ (c .if2 .left))
+returns-3 c = rw (ne-eqb _ _ (c .before .before .if1 .left), ne-eqb _ _ (c .before .if2 .left), eq-eqb _ _ (c .if3 .taken))
+
+returns-4 : tie.Need-returns-4
+returns-4 c = rw (ne-eqb _ _ (c .before .before .if1 .left), ne-eqb _ _ (c .before .if2 .left), ne-eqb _ _ (c .if3 .left))
 
 pub numbered-spec : {M : Type 1} → statement M
-numbered-spec = tie.close (tie.spec returns returns-2 returns-3)
+numbered-spec = tie.close (tie.spec returns returns-2 returns-3 returns-4)

@@ -9,11 +9,8 @@ channels-requires c κs = search needs
 whole-requires : tie.Need-whole-requires
 whole-requires c κs = search needs
 
-numbers-requires : tie.Need-numbers-requires
-numbers-requires c κs = search needs
-
 returns : tie.Need-returns
-returns c = rw (c .numbers .ensures, c .before .whole .ensures, c .before .before .channels .ensures)
+returns c = rw (c .whole .ensures, c .before .channels .ensures)
 
 pub per-channel-spec : {M : Type 1} → statement M
-per-channel-spec = tie.close (tie.spec channels-requires whole-requires numbers-requires returns)
+per-channel-spec = tie.close (tie.spec channels-requires whole-requires returns)

@@ -1,4 +1,4 @@
--- Each query has a row without fields.
+-- The query tells the case.
 use borrow.Author.Needs.{needs}
 use Rattle.settings.proofs.model.Model.query_entry.Statement.{statement}
 use Rattle.settings.proofs.model.Model.query_entry.Tie as tie
@@ -42,6 +42,12 @@ enum-told-5 c = search needs
 fieldless-requires-6 : tie.Need-fieldless-requires-6
 fieldless-requires-6 c κs = search needs
 
+enum-told-6 : tie.Need-enum-told-6
+enum-told-6 c = search needs
+
+fieldless-requires-7 : tie.Need-fieldless-requires-7
+fieldless-requires-7 c κs = search needs
+
 returns : tie.Need-returns
 returns c = rw (c .fieldless .ensures, c .before .before .before .enum-told .given .1)
 
@@ -60,6 +66,9 @@ returns-5 c = rw (c .fieldless5 .ensures, c .before .before .before .enum-told4 
 returns-6 : tie.Need-returns-6
 returns-6 c = rw (c .fieldless6 .ensures, c .before .before .before .enum-told5 .given .1)
 
+returns-7 : tie.Need-returns-7
+returns-7 c = rw (c .fieldless7 .ensures, c .before .before .before .enum-told6 .given .1)
+
 pub query-entry-spec : {M : Type 1} → statement M
 query-entry-spec =
     tie.close
@@ -77,9 +86,12 @@ query-entry-spec =
     fieldless-requires-5
     enum-told-5
     fieldless-requires-6
+    enum-told-6
+    fieldless-requires-7
     returns
     returns-2
     returns-3
     returns-4
     returns-5
-    returns-6)
+    returns-6
+    returns-7)

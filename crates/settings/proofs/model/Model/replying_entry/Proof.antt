@@ -15,11 +15,11 @@ enum-known-a-2 c = search needs
 numbered-requires : tie.Need-numbered-requires
 numbered-requires c κs = search needs
 
-factor-requires : tie.Need-factor-requires
-factor-requires c κs = search needs
+factors-requires : tie.Need-factors-requires
+factors-requires c κs = search needs
 
-numbers-requires : tie.Need-numbers-requires
-numbers-requires c κs = search needs
+of-numbers-requires : tie.Need-of-numbers-requires
+of-numbers-requires c κs = search needs
 
 enum-known-a-3 : tie.Need-enum-known-a-3
 enum-known-a-3 c = search needs
@@ -31,7 +31,7 @@ returns : tie.Need-returns
 returns c = rw (c .setting-entry .ensures, c .before .before .a .given .1)
 
 returns-2 : tie.Need-returns-2
-returns-2 c = rw (c .numbers .ensures, c .before .factor .ensures, c .before .before .numbered .ensures, c .before .before .before .before .a2 .given .1)
+returns-2 c = rw (c .of-numbers .ensures, c .before .factors .ensures, c .before .before .numbered .ensures, c .before .before .before .before .a2 .given .1)
 
 returns-3 : tie.Need-returns-3
 returns-3 c = rw (c .query-entry .ensures, c .before .before .a3 .given .1)
@@ -44,8 +44,8 @@ replying-entry-spec =
     setting-entry-requires
     enum-known-a-2
     numbered-requires
-    factor-requires
-    numbers-requires
+    factors-requires
+    of-numbers-requires
     enum-known-a-3
     query-entry-requires
     returns

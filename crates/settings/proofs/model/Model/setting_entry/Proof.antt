@@ -9,17 +9,23 @@ enum-told c = search needs
 single-requires : tie.Need-single-requires
 single-requires c κs = search needs
 
+single-requires-2 : tie.Need-single-requires-2
+single-requires-2 c κs = search needs
+
+on-both-requires : tie.Need-on-both-requires
+on-both-requires c κs = search needs
+
 enum-told-2 : tie.Need-enum-told-2
 enum-told-2 c = search needs
 
 channels-requires : tie.Need-channels-requires
 channels-requires c κs = search needs
 
-factor-requires : tie.Need-factor-requires
-factor-requires c κs = search needs
+factors-requires : tie.Need-factors-requires
+factors-requires c κs = search needs
 
-numbers-requires : tie.Need-numbers-requires
-numbers-requires c κs = search needs
+of-numbers-requires : tie.Need-of-numbers-requires
+of-numbers-requires c κs = search needs
 
 enum-known-x : tie.Need-enum-known-x
 enum-known-x c = search needs
@@ -34,10 +40,10 @@ stored-entry-requires : tie.Need-stored-entry-requires
 stored-entry-requires c κs = search needs
 
 returns : tie.Need-returns
-returns c = rw (c .single .ensures, c .before .before .before .enum-told .given .1)
+returns c = rw (c .on-both .ensures, c .before .single2 .ensures, c .before .before .single .ensures, c .before .before .before .before .before .enum-told .given .1)
 
 returns-2 : tie.Need-returns-2
-returns-2 c = rw (c .numbers .ensures, c .before .factor .ensures, c .before .before .channels .ensures, c .before .before .before .before .before .enum-told2 .given .1)
+returns-2 c = rw (c .of-numbers .ensures, c .before .factors .ensures, c .before .before .channels .ensures, c .before .before .before .before .before .enum-told2 .given .1)
 
 returns-3 : tie.Need-returns-3
 returns-3 c = rw (c .switching-entry .ensures, c .before .before .x .given .1)
@@ -51,10 +57,12 @@ setting-entry-spec =
     (tie.spec
     enum-told
     single-requires
+    single-requires-2
+    on-both-requires
     enum-told-2
     channels-requires
-    factor-requires
-    numbers-requires
+    factors-requires
+    of-numbers-requires
     enum-known-x
     switching-entry-requires
     enum-known-x-2

@@ -1,24 +1,84 @@
--- The sheet is all that is held (`sheet-whole`), and past its end the first setting (`List·getD-eq-default`).
-use mathlib.Core.Path.{sym}
-use lib.ListN.{List·getD-eq-default}
+-- The line that is left to find among those from j on is the line of the whole sheet.
+use Prim.Native.Nat.{ℕ, _+_, _≤_, _-_}
+use mathlib.Core.Path.{_≡_, refl, sym, ap, _∙_}
+use mathlib.Core.Bool.{Bool, cond, _&&_}
+use lib.ListN.{getD, drop, drop-of-length-le}
+use lib.Dec.{eqb}
+use native.Mathlib.Omega.{arith}
 use borrow.Author.Needs.{needs}
-use Rattle.settings.specs.Mnemonics.{settingsHeld}
+use Rattle.ground.specs.Members.{those}
+use Rattle.settings.specs.Mnemonics.{settingsHeld, takes, sheet, sheetAt}
+use Rattle.settings.specs.declared.mnemonic.Setting.{Setting}
 use Rattle.settings.specs.declared.mnemonic.Setting.the-variants.{Uni}
-use Rattle.settings.proofs.Names.{sheet-whole}
+use Rattle.settings.proofs.Sheets.{line-here, line-behind}
 use Rattle.settings.proofs.model.Model.sheet_at.Statement.{statement}
 use Rattle.settings.proofs.model.Model.sheet_at.Tie as tie
 
-mul-result : tie.Need-mul-result
-mul-result c = search needs
+abbrev Inv-loop : tie.InvT-loop
+Inv-loop self i left₀ j₀ left j = (j ≤ 22) × (getD (those (takes self) (drop j settingsHeld)) left Uni ≡ sheetAt self i)
 
-array-copy-out-result : tie.Need-array-copy-out-result
-array-copy-out-result c = search needs
+abbrev μ-loop : tie.MeasureT-loop
+μ-loop self i left₀ j₀ left j = 22 - j
 
-returns : tie.Need-returns
-returns c = rw (sheet-whole (c .before .before .args .self))
+loop-holds : tie.Need-loop-holds Inv-loop μ-loop
+unfolding sheet
+loop-holds c = (omega arith, refl)
 
-returns-2 : tie.Need-returns-2
-returns-2 c = let a = c .before .args in rw (sheet-whole (a .self)) (sym (List·getD-eq-default settingsHeld Uni {n = a .i} (c .if1 .left)))
+mul-x : tie.Need-mul-x Inv-loop μ-loop
+mul-x c = search needs
+
+array-copy-out-x : tie.Need-array-copy-out-x Inv-loop μ-loop
+array-copy-out-x c = search needs
+
+takes-requires : tie.Need-takes-requires Inv-loop μ-loop
+takes-requires c κs = search needs
+
+returns : tie.Need-returns Inv-loop μ-loop
+returns c =
+    let t = c .before in
+    let l = t .before .before .before .loop in
+    let a = t .before .before .before .before .args in
+    sym (line-here (takes (a .self)) settingsHeld (l .j) (l .left) Uni (t .before .before .loop-test .taken) (rw (← t .takes .ensures) (c .if1 .taken))) ∙ l .inv .1
+
+still-left-requires : tie.Need-still-left-requires Inv-loop μ-loop
+still-left-requires c κs = search needs
+
+add-j : tie.Need-add-j Inv-loop μ-loop
+add-j c = search needs
+
+loop-less : tie.Need-loop-less Inv-loop μ-loop
+loop-less c = search needs
+
+loop-again : tie.Need-loop-again Inv-loop μ-loop
+loop-again c =
+    let t = c .before .before in
+    let l = t .before .before .before .loop in
+    let a = t .before .before .before .before .args in
+    let x = getD settingsHeld (l .j) Uni in (
+      omega arith,
+      ap (λ (n : ℕ). getD (those (takes (a .self)) (drop (l .j + 1) settingsHeld)) n Uni) (c .still-left .ensures ∙ ap (λ (b : Bool). cond b (l .left - 1) (l .left)) (t .takes .ensures))
+          ∙ sym (line-behind (takes (a .self)) settingsHeld (l .j) (l .left) Uni (t .before .before .loop-test .taken) (rw (← t .takes .ensures) (c .before .if1 .left))) ∙ l .inv .1,
+    )
+
+returns-2 : tie.Need-returns-2 Inv-loop μ-loop
+returns-2 c =
+    let l = c .before .loop in
+    let a = c .before .before .args in
+    rw (drop-of-length-le settingsHeld (c .loop-test .left)) at (l .inv .1)
 
 pub sheet-at-spec : {M : Type 1} → statement M
-sheet-at-spec = tie.close (tie.spec mul-result array-copy-out-result returns returns-2)
+sheet-at-spec =
+    tie.close
+    (tie.spec
+    Inv-loop
+    μ-loop
+    loop-holds
+    mul-x
+    array-copy-out-x
+    takes-requires
+    returns
+    still-left-requires
+    add-j
+    loop-less
+    loop-again
+    returns-2)

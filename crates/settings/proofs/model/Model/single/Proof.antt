@@ -6,11 +6,8 @@ use Rattle.settings.proofs.model.Model.single.Tie as tie
 whole-requires : tie.Need-whole-requires
 whole-requires c κs = search needs
 
-numbers-requires : tie.Need-numbers-requires
-numbers-requires c κs = search needs
-
 returns : tie.Need-returns
-returns c = rw (c .numbers .ensures, c .before .whole .ensures)
+returns c = rw (c .whole .ensures)
 
 pub single-spec : {M : Type 1} → statement M
-single-spec = tie.close (tie.spec whole-requires numbers-requires returns)
+single-spec = tie.close (tie.spec whole-requires returns)

@@ -11,11 +11,12 @@ use Rattle.text.specs.Text.{ascii}
 use Rattle.text.specs.Digits.{dig, bare}
 use Rattle.numbers.specs.Rounding.{climbWithin, digits, power, rounded, fittedTo}
 use Rattle.numerals.specs.Runs.{lead, rest, headIs, value}
-use Rattle.numerals.specs.Whole.{numberOf}
+use Rattle.numerals.specs.Whole.{numberOf, behindPoint, factorOf}
 use Rattle.numerals.specs.Exponential.{afterPlus, afterSign, powerOf, composed, fraction, afterFraction, thresholdOf}
+use Rattle.numerals.specs.Writing.{scientific}
 use Rattle.settings.specs.Rows.{listed}
 use Rattle.settings.specs.Table.{switchingEntry, storedEntry, kinds, cells}
-use Rattle.settings.specs.Mnemonics.{sheet, setting, known, name, same, found, recognised}
+use Rattle.settings.specs.Mnemonics.{setting, known, name, same, found, recognised}
 use Rattle.settings.specs.declared.model.Model.{Model}
 use Rattle.settings.specs.declared.model.Model.the-variants.{Tpg361, Tpg362, Tpg262}
 use Rattle.settings.specs.declared.mnemonic.Setting.the-variants.{Cal}
@@ -107,9 +108,20 @@ answers = map (λ (l : Line). says (l .model) (judged (l .model) (ascii (l .sent
 abbrev pub expected : List Line → List (List ℕ)
 expected = map (λ (l : Line). ascii (l .said))
 
-pub lines-hold : map answers (lines ∷ olderLines ∷ unknownLines ∷ []) ≡ map expected (lines ∷ olderLines ∷ unknownLines ∷ [])
-unfolding bare climbWithin digits power rounded fittedTo lead rest headIs value numberOf afterPlus afterSign powerOf composed fraction afterFraction thresholdOf known same found sheet recognised switchingEntry storedEntry fields limited fieldsRead formed valued withFields judged
+abbrev Hold : List Line → Type 0
+Hold ls = answers ls ≡ expected ls
+
+pub lines-hold : Hold lines
+unfolding bare climbWithin digits power rounded fittedTo lead rest headIs value numberOf afterPlus afterSign powerOf composed fraction afterFraction thresholdOf known same found recognised switchingEntry storedEntry fields limited fieldsRead formed valued withFields judged
 lines-hold = refl
+
+pub older-lines-hold : Hold olderLines
+unfolding bare climbWithin digits power rounded fittedTo lead rest headIs value numberOf behindPoint factorOf afterPlus afterSign powerOf composed fraction afterFraction thresholdOf scientific known same found recognised switchingEntry storedEntry fields limited fieldsRead formed valued withFields judged
+older-lines-hold = refl
+
+pub unknown-lines-hold : Hold unknownLines
+unfolding known same found recognised switchingEntry storedEntry fields judged
+unknown-lines-hold = refl
 
 -- ---- "Sending a CF1 reply back as CF1: two fields on a 362, refused."
 

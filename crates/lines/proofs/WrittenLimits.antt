@@ -22,7 +22,7 @@ use Rattle.numerals.proofs.Stops.{read-within}
 use Rattle.settings.specs.Models.{channels}
 use Rattle.settings.specs.Rows.{plain, pairRow, listed, rowOf}
 use Rattle.settings.specs.Table.{entry, kinds, stored}
-use Rattle.settings.specs.Mnemonics.{sheet, setting, known, name, same, found, recognised, isThere}
+use Rattle.settings.specs.Mnemonics.{setting, known, name, same, found, recognised, isThere}
 use Rattle.settings.specs.Limits.{inside, fits, cellsFit, within, SettingsShaped}
 use Rattle.settings.specs.declared.model.Model.{Model}
 use Rattle.settings.specs.declared.mnemonic.Mnemonic.{Mnemonic}

@@ -6,12 +6,12 @@ use mathlib.Core.Bool.{Bool, true, false, and-eq-true-iff}
 use native.Mathlib.Omega.{arith}
 use borrow.Author.Tests.{eqb-true, lt-leb}
 use lib.Dec.{eqb}
-use lib.ListN.{getD}
+use lib.ListN.{getD, replicate}
 use lib.Seq.{getD-set-same}
 use Rattle.text.specs.Text.{ascii}
 use Rattle.text.specs.Digits.{binary}
 use Rattle.text.specs.Control.{crLf}
-use Rattle.gauges.specs.Readings.{noReading, withinLimits}
+use Rattle.gauges.specs.Readings.{noReading, withinLimits, zeroValue}
 use Rattle.gauges.specs.Shown.{shownOf}
 use Rattle.gauges.specs.declared.reading.Reading.{Reading}
 use Rattle.settings.specs.Models.{startsOn}
@@ -27,10 +27,12 @@ use Rattle.settings.specs.declared.mnemonic.Replying.the-variants.{OfQuery}
 use Rattle.settings.specs.declared.mnemonic.Mnemonic.the-variants.{Sav}
 use Rattle.settings.specs.declared.rows.Row.{Row}
 use Rattle.settings.specs.declared.Settings.{Settings}
+use Rattle.settings.proofs.Every.{models}
+use Rattle.settings.proofs.Tabled.{uni-count}
 use Rattle.lines.specs.declared.word.Word.{Word}
 use Rattle.lines.specs.declared.verdict.Verdict.the-variants.{Writes}
 use Rattle.instrument.specs.Events.{functionAt, isOn, started, following, measured, written, applied}
-use Rattle.instrument.specs.Limits.{instrumentWithin, InstrumentShaped}
+use Rattle.instrument.specs.Limits.{gaugeWithin, instrumentWithin, InstrumentShaped}
 use Rattle.instrument.specs.Replies.{shownAt, eachChannel, replyText, streamText}
 use Rattle.instrument.specs.declared.Instrument.{Instrument}
 use Rattle.instrument.proofs.InstrumentLimits.{four-at, instrument-parts}
@@ -58,15 +60,15 @@ module _ (s : Instrument) (channel : ℕ) (r : Reading) where
 module _ (s : Instrument) (r : Row) where
   pub unit-stored : applied s (Writes (setting Uni) r) .settings .unit ≡ firstNumber r
   unfolding written
-  unit-stored = refl
+  unit-stored = rw (uni-count (s .model))
 
   pub sav-zero : firstNumber r ≡ 0 → applied s (Writes Sav r) .saved ≡ defaults (s .model)
   unfolding written
   sav-zero e = rw e
 
-  pub assigned-on : (k : ℕ) → InstrumentShaped s → k ≤ 3 → firstNumber r ≡ 1 → isOn (applied s (Writes (setting (Sp k)) r)) k ≡ true
+  pub assigned-starts : (k : ℕ) → InstrumentShaped s → k ≤ 3 → isOn (applied s (Writes (setting (Sp k)) r)) k ≡ startsOn (s .model) (firstNumber r)
   unfolding written
-  assigned-on k t h e = rw (getD-set-same (s .switches) k (startsOn (s .model) (firstNumber r)) false (omega (arith, t .switches)), e)
+  assigned-starts k t h = getD-set-same (s .switches) k (startsOn (s .model) (firstNumber r)) false (omega (arith, t .switches))
 
 -- ---- replies
 
@@ -110,9 +112,18 @@ module _ (s : Instrument) where
   pub second-absent : s .model ≡ Tpg361 → instrumentWithin s ≡ true → getD (s .readings) 1 noReading .kind ≡ 6
   second-absent e w =
       let r = getD (s .readings) 1 noReading in
-      let h : eqb (r .kind) 6 ≡ true = and-eq-true-iff (withinLimits r) (eqb (r .kind) 6) .0 (rw e at (instrument-parts s w .readings 1 (omega arith))) .1 in
+      let h : eqb (r .kind) 6 ≡ true = and-eq-true-iff (gaugeWithin Tpg361 r) (eqb (r .kind) 6) .0 (rw e at (instrument-parts s w .readings 1 (omega arith))) .1 in
       eqb-true (r .kind) 6 h
 
   pub long-serial : 99999999 < s .serial → instrumentWithin s ≡ false
   unfolding instrumentWithin
   long-serial h = rw (lt-leb (s .serial) 99999999 h)
+
+-- kinds 8 and 9 with good data, and kind 8 without a sensor: a 262 has kind 8, and none is without a sensor but kind 6
+abbrev kindGiven : ℕ → ℕ → List Bool
+kindGiven kind status = map (λ (m : Model). gaugeWithin m (record { kind = kind; status = status; value = zeroValue })) models
+
+pub eighth-kind : kindGiven 7 6 ∷ kindGiven 8 0 ∷ kindGiven 8 5 ∷ kindGiven 9 0 ∷ []
+    ≡ replicate 3 true ∷ (false ∷ false ∷ true ∷ []) ∷ replicate 3 false ∷ replicate 3 false ∷ []
+unfolding withinLimits
+eighth-kind = refl

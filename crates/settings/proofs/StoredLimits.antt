@@ -27,7 +27,7 @@ use Rattle.settings.specs.declared.table.Fields.{Fields}
 use Rattle.settings.specs.declared.rows.Row.{Row}
 use Rattle.settings.specs.declared.Settings.{Settings}
 use Rattle.settings.proofs.Every.{tested, channels-few}
-use Rattle.settings.proofs.Tabled.{switching-there, numeric, Numbers, uni-numbers, uni-alone, cal-numbers, stored-numbers, few, count-kinds}
+use Rattle.settings.proofs.Tabled.{switching-there, numeric, Numbers, uni-numbers, uni-count, cal-numbers, stored-numbers, few, count-kinds}
 use Rattle.settings.proofs.Places.{same-cell, number-plain, cell, kindAt, placed, row-places, places-row}
 use Rattle.settings.proofs.Storing.{Holding, canon, mixed-is, stored-row, stored-others, factor-row, factor-others}
 use Rattle.settings.proofs.Storing.Holding.{uni, cal, sp, kept}
@@ -61,7 +61,7 @@ module _ (f : Fields) (r : Row) (fit : Fitting f r) where
 
 -- so what a line hands over is read back unchanged
 pub fitting-canon : (model : Model) (r : Row) {x : Setting} → Holding x → Fitting (settingEntry x .fields model) r → canon x r ≡ r
-fitting-canon model r uni f = sym (one-number (settingEntry Uni .fields model) r f (uni-numbers model) (uni-alone model))
+fitting-canon model r uni f = sym (one-number (settingEntry Uni .fields model) r f (uni-numbers model) (omega (arith, uni-count model)))
 fitting-canon model r cal f = sym (two-numbers (settingEntry Cal .fields model) r f (cal-numbers model))
 fitting-canon model r (sp k h) f =
     let p = subst (λ (e : TableRow). Fitting (e .fields model) r) (switching-there k h) f in

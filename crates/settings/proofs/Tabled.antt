@@ -21,7 +21,7 @@ use Rattle.settings.specs.declared.mnemonic.Mnemonic.the-variants.{OfRep
 use Rattle.settings.specs.declared.table.Kind.{Kind}
 use Rattle.settings.specs.declared.table.Kind.the-variants.{OfWhole, OfFactor, OfThreshold}
 use Rattle.settings.specs.declared.table.Fields.{Fields}
-use Rattle.settings.proofs.Every.{tested, channels-few}
+use Rattle.settings.proofs.Every.{every-model, tested, channels-few}
 
 pub stored-past : (k : ℕ) → 16 ≤ k → storedEntry k ≡ nothing
 unfolding storedEntry
@@ -62,9 +62,9 @@ pub uni-numbers : (model : Model) → Numbers (settingEntry Uni .fields model)
 unfolding every
 uni-numbers model = numbers-by _ (tested (λ m. allNumbers (settingEntry Uni .fields m)) refl model)
 
-pub uni-alone : (model : Model) → settingEntry Uni .fields model .count ≤ 1
-unfolding every
-uni-alone model = leb-true _ 1 (tested (λ m. leb (settingEntry Uni .fields m .count) 1) refl model)
+-- the unit is one number on every model
+pub uni-count : (model : Model) → settingEntry Uni .fields model .count ≡ 1
+uni-count = every-model (λ m. settingEntry Uni .fields m .count ≡ 1) (refl, (refl, (refl, tt)))
 
 pub cal-numbers : (model : Model) → Numbers (settingEntry Cal .fields model)
 cal-numbers model = record { few = channels-few model; first = refl; others = refl }
@@ -79,7 +79,7 @@ stored-numbers model k =
 
 setting-few : (model : Model) (x : Setting) → settingEntry x .fields model .count ≤ 3
 unfolding switchingEntry
-setting-few model Uni = omega (arith, uni-alone model)
+setting-few model Uni = omega (arith, uni-count model)
 setting-few model Cal = omega (arith, channels-few model)
 setting-few model (Sp k) = cond-cases (λ (e : TableRow). e .fields model .count ≤ 3) (ltb k 4) (switchings k) nothing (λ _. omega arith) (λ _. omega arith)
 setting-few model (Stored k) = omega (arith, stored-numbers model k .few)

@@ -37,6 +37,15 @@ write-identity-requires c κs = search needs
 enum-told-5 : tie.Need-enum-told-5
 enum-told-5 c = search needs
 
+slice-aggregate-append : tie.Need-slice-aggregate-append
+slice-aggregate-append c = search needs
+
+append-requires : tie.Need-append-requires
+append-requires c κs = search needs
+
+enum-told-6 : tie.Need-enum-told-6
+enum-told-6 c = search needs
+
 write-word-requires : tie.Need-write-word-requires
 write-word-requires c κs = search needs
 
@@ -74,7 +83,13 @@ same-length-6 : tie.Need-same-length-6
 same-length-6 c = search needs
 
 returns-6 : tie.Need-returns-6
-returns-6 c = c .before .before .write-word .ensures ∙ rw (c .before .before .before .before .enum-told5 .given .1)
+returns-6 c = c .before .before .append .ensures ∙ rw (c .before .before .before .before .before .enum-told5 .given .1)
+
+same-length-7 : tie.Need-same-length-7
+same-length-7 c = search needs
+
+returns-7 : tie.Need-returns-7
+returns-7 c = c .before .before .write-word .ensures ∙ rw (c .before .before .before .before .enum-told6 .given .1)
 
 pub write-query-spec : {M : Type 1} → statement M
 write-query-spec =
@@ -91,6 +106,9 @@ write-query-spec =
     enum-told-4
     write-identity-requires
     enum-told-5
+    slice-aggregate-append
+    append-requires
+    enum-told-6
     write-word-requires
     same-length
     returns
@@ -103,4 +121,6 @@ write-query-spec =
     same-length-5
     returns-5
     same-length-6
-    returns-6)
+    returns-6
+    same-length-7
+    returns-7)

@@ -17,7 +17,7 @@ use Rattle.text.specs.Spans.{until}
 use Rattle.text.specs.Control.{crLf, lf, cr}
 use Rattle.settings.specs.Rows.{rowOf}
 use Rattle.settings.specs.Table.{cells}
-use Rattle.settings.specs.Mnemonics.{sheet, setting, name}
+use Rattle.settings.specs.Mnemonics.{settingsHeld, sheet, setting, name}
 use Rattle.settings.specs.Limits.{within}
 use Rattle.settings.specs.declared.model.Model.{Model}
 use Rattle.settings.specs.declared.mnemonic.Setting.{Setting}
@@ -25,7 +25,8 @@ use Rattle.settings.specs.declared.mnemonic.Mnemonic.{Mnemonic}
 use Rattle.settings.specs.declared.mnemonic.Replying.the-variants.{OfSetting}
 use Rattle.settings.specs.declared.rows.Row.{Row}
 use Rattle.settings.specs.declared.Settings.{Settings}
-use Rattle.settings.proofs.Sheets.{sheet-each}
+use Rattle.settings.proofs.Storing.{Holding}
+use Rattle.settings.proofs.Sheets.{held-holding, lacking-default, sheet-each}
 use Rattle.settings.proofs.Answerable.{first-there}
 use Rattle.lines.specs.Judging.{judged, effect}
 use Rattle.lines.specs.Replies.{settingText}
@@ -48,7 +49,7 @@ use Rattle.tpg.specs.declared.State.{State}
 use Rattle.tpg.proofs.HostRun.{after-append, said-append}
 use Rattle.tpg.proofs.StateLimits.{heard-model, after-sound, after-model}
 use Rattle.demands.specs.Wire.{ackLine, End, ended, anew, enquiries, asOften}
-use Rattle.demands.specs.Sheets.{boxModel, boxSettings, Boxes, questions, sheetAsked, sheetReplies, firstLine, behindLine, copyLines, copyOf, linesSent, acks, SheetRead, SheetCopied, SheetCut, SheetsDecide}
+use Rattle.demands.specs.Sheets.{boxModel, boxSettings, Boxes, questions, sheetAsked, sheetReplies, firstLine, behindLine, copyLines, copyOf, linesSent, acks, SheetRead, SheetCopied, SheetCut, SheetsDecide, LackingStays}
 use Rattle.demands.proofs.Ending.{Line}
 use Rattle.demands.proofs.Typing.{line-judged, line-enquired, line-left, anew-line, anew-instrument, anew-said, anew-after}
 use Rattle.demands.proofs.Spelling.{Character, Typeable, typeable-inner, typeable-line, Short, names-short, name-typeable, setting-characters, line-typeable, name-judged}
@@ -297,3 +298,8 @@ sheets-decide a b both e f =
       (λ same. decide .0 (replies-texts model (boxSettings a) (boxSettings b) (sheet model) (sym first ∙ same ∙ second))),
       (λ same. sym (same-sheet a b both (sym same) f e)),
     )
+
+-- ---- what no sheet names
+
+pub lacking-stays : LackingStays
+lacking-stays s k = each-map Holding _ (λ x h. lacking-default (boxModel s) (boxSettings s) (settings-within s k) x h) settingsHeld held-holding

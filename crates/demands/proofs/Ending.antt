@@ -10,7 +10,7 @@ use Rattle.text.specs.Control.{etx, enq, lf, cr}
 use Rattle.settings.specs.Rows.{firstNumber}
 use Rattle.settings.specs.Mnemonics.{same, isErr}
 use Rattle.settings.specs.declared.model.Model.{Model}
-use Rattle.settings.specs.declared.mnemonic.Query.the-variants.{Sps, Pr, Prx, Tid, Ayt, Err}
+use Rattle.settings.specs.declared.mnemonic.Query.the-variants.{Sps, Pr, Prx, Tid, Ayt, Pnr, Err}
 use Rattle.settings.specs.declared.mnemonic.Replying.{Replying}
 use Rattle.settings.specs.declared.mnemonic.Replying.the-variants.{OfSetting, Cf, OfQuery}
 use Rattle.settings.specs.declared.mnemonic.Mnemonic.{Mnemonic}
@@ -116,6 +116,7 @@ reply-without-word s error (Chosen (OfQuery (Pr k))) = refl
 reply-without-word s error (Chosen (OfQuery Prx)) = refl
 reply-without-word s error (Chosen (OfQuery Tid)) = refl
 reply-without-word s error (Chosen (OfQuery Ayt)) = refl
+reply-without-word s error (Chosen (OfQuery Pnr)) = refl
 reply-without-word s error (Chosen (OfQuery Err)) = refl
 
 -- it is gone for good

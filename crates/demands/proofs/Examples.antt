@@ -1,14 +1,15 @@
--- The starred examples of 01, "Lines on either side", as one statement over a list of them; and 01's example, its other examples and its wrong readings
--- as another. Both are worked out from the definitions, through the calls on a fresh box.
+-- The starred examples of 01, "Lines on either side", as one statement over a list of them; 01's example, its other examples and its wrong readings
+-- as another; and a 262 (02, W-201). All are worked out from the definitions, through the calls on a fresh box.
 use Prim.Native.Nat.{ℕ}
 use Prim.Native.String.{String}
 use mathlib.Core.Path.{_≡_, refl}
-use mathlib.Core.List.{List, [], _∷_, _++_, map}
+use mathlib.Core.List.{List, [], _∷_, _++_, map, flatMap}
 use lib.IntN.{ℤ, pos, negsuc}
 use lib.ListN.{replicate}
 use Rattle.ground.specs.Members.{every}
 use Rattle.text.specs.Text.{ascii}
 use Rattle.text.specs.Digits.{bare}
+use Rattle.text.specs.Spans.{until}
 use Rattle.text.specs.Control.{crLf, enq, lf}
 use Rattle.numbers.specs.Numbers.{less, isBelow, isAbove}
 use Rattle.numbers.specs.Rounding.{climbWithin, digits, power, rounded, fittedTo, scaledBy}
@@ -21,7 +22,7 @@ use Rattle.gauges.specs.Shown.{switched}
 use Rattle.settings.specs.Table.{switchingEntry, storedEntry}
 use Rattle.settings.specs.Mnemonics.{sheet, known, same, found, recognised, answers, isErr}
 use Rattle.settings.specs.Limits.{cellsFit, within}
-use Rattle.settings.specs.declared.model.Model.the-variants.{Tpg361, Tpg362}
+use Rattle.settings.specs.declared.model.Model.the-variants.{Tpg361, Tpg362, Tpg262}
 use Rattle.lines.specs.Splitting.{fields}
 use Rattle.lines.specs.Fields.{limited}
 use Rattle.lines.specs.Judging.{fieldsRead, formed, valued, withFields, judged}
@@ -39,6 +40,7 @@ use Rattle.tpg.specs.Calls.{admits, roomed, roomedBytes, hosted, tickText, coun
 use Rattle.tpg.specs.declared.State.{State}
 use Rattle.demands.specs.Calls.{Call, host, reading, ticks, cycle, outcome, callBytes}
 use Rattle.demands.specs.Wire.{ackLine, nakLine, byCr, byCrLf, ended, enquiries}
+use Rattle.demands.specs.Sheets.{copyLines, copyOf, linesSent}
 
 -- all that calls send, one after the other
 abbrev pub sends : State → List Call → List ℕ
@@ -196,3 +198,65 @@ examples =
 pub examples-hold : Hold examples
 unfolding bare less isBelow isAbove climbWithin digits power rounded fittedTo scaledBy lead rest headIs value numberOf behindPoint factorOf afterPlus afterSign powerOf composed fraction afterFraction thresholdOf scientific withinLimits switched every known same found sheet recognised answers switchingEntry storedEntry cellsFit within fields limited fieldsRead formed valued withFields judged settingText grown ticked kindOf concluded isErr asked byKind heard lineWithin portWithin measured written instrumentWithin eachChannel replyText streamText stateWithin eventText next sent after said taken admits roomed roomedBytes hosted tickText counted afterTicks ticksText readingCall cycleCall
 examples-hold = refl
+
+-- ---- W-201
+
+abbrev on262 : List Call → List ℕ → Example
+on262 cs got = record { box = freshBox Tpg262 0; calls = cs; got = got }
+
+-- a good reading of a gauge of some kind, 1.0000E-10 hPa
+abbrev gauge : ℕ → ℕ → Call
+gauge channel kind = reading channel (record { kind = kind; status = 0; value = record { mantissa = pos 10000; exponent = negsuc 9 } })
+
+abbrev olderReplies : List String
+olderReplies =
+    "0" ∷ "1,1" ∷ "1.000,1.000" ∷ "2" ∷ "0,1.0000E-09,9.0000E-07" ∷ "0,1.0000E-09,9.0000E-07" ∷ "0,1.0000E-09,9.0000E-07" ∷ "0,1.0000E-09,9.0000E-07"
+    ∷ "0,0" ∷ "0" ∷ "0" ∷ "1" ∷ "0" ∷ "0" ∷ []
+
+abbrev replies : List String → List ℕ
+replies [] = []
+replies (t ∷ ts) = ackLine ++ (reply t ++ replies ts)
+
+abbrev refusals : List String → List ℕ
+refusals [] = []
+refusals (t ∷ ts) = refused "0001" ++ refusals ts
+
+abbrev olderUnknown : List String
+olderUnknown = "CF1" ∷ "CF2" ∷ "AYT" ∷ "ERA" ∷ "EVA" ∷ "FMT" ∷ "LNG" ∷ "NAD" ∷ "PRE" ∷ "PRO" ∷ "DCS" ∷ []
+
+abbrev pub older : List Example
+older =
+    -- a fresh box: its fourteen lines, no channel with good data, the eleven that it does not know
+    on262 (map asks ("UNI" ∷ "FIL" ∷ "CAL" ∷ "DCD" ∷ "SP1" ∷ "SP2" ∷ "SP3" ∷ "SP4" ∷ "PUC" ∷ "DIC" ∷ "SCT" ∷ "WDT" ∷ "TLC" ∷ "LOC" ∷ [])) (replies olderReplies)
+    ∷ on262 (waits 10 ∷ asks "PRX" ∷ asks "PNR" ∷ []) (reply "5,+2.0000E-02,5,+2.0000E-02" ++ replies ("5,+2.0000E-02,5,+2.0000E-02" ∷ "302-510--" ∷ []))
+    ∷ on262 (map asks olderUnknown) (refusals olderUnknown)
+    -- "TID tells IKR9 (kind 1) from IKR11 (a new kind 8)"; "kind 8 on a 361 or 362 is answer 5", so the channel stays without a reading
+    ∷ on262 (gauge 1 1 ∷ gauge 2 8 ∷ asks "TID" ∷ gauge 1 9 ∷ enqCall ∷ []) (ackLine ++ reply "IKR9,IKR11" ++ reply "IKR9,IKR11")
+    ∷ on362 (gauge 1 8 ∷ gauge 2 1 ∷ asks "TID" ∷ []) (replies ("noSEn,IKR" ∷ []))
+    ∷ on361 (gauge 1 8 ∷ asks "PRX" ∷ []) (replies ("5,+2.0000E-02" ∷ []))
+    -- all four functions listen to channel 1 and start off; a channel that lost its gauge sets them off
+    ∷ on262 (asks "SPS" ∷ gauge 2 8 ∷ enqCall ∷ gauge 1 8 ∷ enqCall ∷ reading 1 noReading ∷ enqCall ∷ [])
+    (replies ("0,0,0,0" ∷ []) ++ reply "0,0,0,0" ++ reply "1,1,1,1" ++ reply "0,0,0,0")
+    -- assignment 1 is channel 2, and is not on by itself
+    ∷ on262 (line "SP2,1,1,2" ∷ asks "SPS" ∷ gauge 2 8 ∷ enqCall ∷ []) (ackLine ++ replies ("0,0,0,0" ∷ []) ++ reply "0,1,0,0")
+    -- SAV,0 and a power cycle bring WDT's default back, which is 1
+    ∷ on262 (line "WDT,0" ∷ line "SAV,1" ∷ cycle ∷ asks "WDT" ∷ line "SAV,0" ∷ cycle ∷ asks "WDT" ∷ [])
+    (ackLine ++ ackLine ++ replies ("0" ∷ []) ++ ackLine ++ replies ("1" ∷ []))
+    ∷ []
+
+pub older-hold : Hold older
+unfolding bare less isBelow isAbove climbWithin digits power rounded fittedTo scaledBy lead rest headIs value numberOf behindPoint factorOf afterPlus afterSign powerOf composed fraction afterFraction thresholdOf scientific withinLimits switched every known same found sheet recognised answers switchingEntry storedEntry cellsFit within fields limited fieldsRead formed valued withFields judged settingText grown ticked kindOf concluded isErr asked byKind heard lineWithin portWithin measured written instrumentWithin eachChannel replyText streamText stateWithin eventText next sent after said taken admits roomed roomedBytes hosted tickText counted afterTicks ticksText readingCall cycleCall
+older-hold = refl
+
+-- a sheet read and copied: the lines that a host makes of it, and of the second box's sheet after them
+abbrev pub olderSheet : List String
+olderSheet =
+    "UNI,1" ∷ "FIL,2,0" ∷ "CAL,9.990,0.100" ∷ "DCD,3" ∷ "SP1,1,1.0000E+00,2.0000E+00" ∷ "SP2,0,1.0000E-09,9.0000E-07" ∷ "SP3,0,1.0000E-09,9.0000E-07" ∷ "SP4,0,1.0000E-09,9.0000E-07"
+    ∷ "PUC,1,0" ∷ "DIC,1" ∷ "SCT,1" ∷ "WDT,0" ∷ "TLC,1" ∷ "LOC,1" ∷ []
+
+abbrev setFrom : List String → State
+setFrom ls = after (freshBox Tpg262 0) (linesSent byCr (map ascii ls))
+
+pub older-sheet-copied : copyOf said byCr (setFrom olderSheet) ≡ map ascii olderSheet
+unfolding flatMap copyLines until bare less isBelow isAbove climbWithin digits power rounded fittedTo scaledBy lead rest headIs value numberOf behindPoint factorOf afterPlus afterSign powerOf composed fraction afterFraction thresholdOf scientific withinLimits switched every known same found sheet recognised answers switchingEntry storedEntry cellsFit within fields limited fieldsRead formed valued withFields judged settingText grown ticked kindOf concluded isErr asked byKind heard lineWithin portWithin measured written instrumentWithin eachChannel replyText streamText stateWithin eventText next sent after said taken admits roomed roomedBytes hosted tickText counted afterTicks ticksText readingCall cycleCall
+older-sheet-copied = refl

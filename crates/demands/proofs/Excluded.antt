@@ -75,12 +75,13 @@ naks-all says becomes meets naks =
 
 -- ---- boxes that differ
 
--- for each setting fields that are not its default
+-- for each setting fields that are its default on no model
 others : Setting → List String
-others Uni = "0" ∷ []
+others Uni = "1" ∷ []
 others Cal = "2" ∷ "2" ∷ []
 others (Sp k) = "1" ∷ "1" ∷ "1" ∷ []
-others (Stored k) = let n : String = getD ("0" ∷ "1" ∷ "1" ∷ "1" ∷ "1" ∷ "1" ∷ "2" ∷ "1" ∷ "1" ∷ "1" ∷ "1" ∷ []) k "" in n ∷ n ∷ []
+others (Stored k) =
+    let n : String = getD ("0" ∷ "3" ∷ "1" ∷ "1" ∷ "1" ∷ "1" ∷ "2" ∷ "1" ∷ "1" ∷ "1" ∷ "1" ∷ "1" ∷ "1" ∷ "0" ∷ "1" ∷ "1" ∷ []) k "" in n ∷ n ∷ []
 
 -- a box that was sent them
 changed : Model → Setting → State

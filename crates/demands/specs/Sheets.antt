@@ -1,4 +1,4 @@
--- Demand 3 (docs/DEMANDS.md has its sentences), said as demand 2 is.
+-- Demand 3 (docs/DEMANDS.md has its sentences), said as demand 2 is; and what of the settings no sheet names (02, W-201).
 use Prim.Native.Nat.{ℕ, _+_}
 use Prim.Native.Char.{code}
 use mathlib.Core.Path.{_≡_}
@@ -8,8 +8,9 @@ use lib.ListN.{length, take, drop}
 use Rattle.ground.specs.Members.{Each}
 use Rattle.text.specs.Spans.{until}
 use Rattle.text.specs.Control.{cr, crLf}
-use Rattle.settings.specs.Rows.{row}
-use Rattle.settings.specs.Mnemonics.{sheet, setting, name}
+use Rattle.settings.specs.Rows.{listed, row}
+use Rattle.settings.specs.Table.{settingEntry, fieldCount}
+use Rattle.settings.specs.Mnemonics.{settingsHeld, sheet, setting, name}
 use Rattle.settings.specs.declared.mnemonic.Setting.{Setting}
 use Rattle.settings.specs.declared.Settings.{Settings}
 use Rattle.settings.specs.declared.model.Model.{Model}
@@ -37,7 +38,7 @@ pub record Boxes (a b : State) : Type 0 where
 abbrev pub questions : End → List Setting → List ℕ
 questions e = flatMap (λ (x : Setting). ended e (name (setting x)) ++ enquiries 1)
 
--- "Send the first an ETX and read the seventeen sheet mnemonics."
+-- "Send the first an ETX and read the seventeen sheet mnemonics.", or as many as the model's sheet has (02, W-201)
 abbrev pub sheetAsked : End → State → List ℕ
 sheetAsked e s = anew (questions e (sheet (boxModel s)))
 
@@ -103,3 +104,12 @@ SheetCut says becomes =
 -- "Two such boxes give equal sheets exactly when their settings are equal."
 abbrev pub SheetsDecide : Says → Type 0
 SheetsDecide says = (a b : State) → Boxes a b → (e f : End) → (says a (sheetAsked e a) ≡ says b (sheetAsked f b)) ↔ (boxSettings a ≡ boxSettings b)
+
+-- ---- what no sheet names
+
+-- W-201: "Cells a model lacks stay at their default", in every state that a box can be in: of every setting, on the model's sheet or not,
+-- the cells behind those that the model has
+abbrev pub LackingStays : Type 0
+LackingStays =
+    (s : State) → Sound s
+    → Each (λ (x : Setting). let n = fieldCount (boxModel s) x in drop n (listed (row (boxSettings s) x)) ≡ drop n (listed (settingEntry x .default (boxModel s)))) settingsHeld

@@ -1,14 +1,14 @@
 -- The sheet: it has every setting that the model takes once, and its cells decide settings that are within their limits.
-use Prim.Native.Nat.{ℕ, zero, suc, _+_, _-_, _*_, _<_}
-use mathlib.Core.Path.{_≡_, refl, sym, ap, _∙_, subst}
+use Prim.Native.Nat.{ℕ, zero, suc, _+_, _-_, _*_, _≤_, _<_}
+use mathlib.Core.Path.{_≡_, refl, sym, ap, ap₂, _∙_, subst}
 use mathlib.Core.List.{List, [], _∷_, _++_, map}
 use mathlib.Core.Bool.{Bool, true, false, cond, not, _&&_, and-eq-true-iff}
 use mathlib.Core.Logic.{_≢_, _⊎_, inl, inr, ⊎-elim, _↔_}
 use mathlib.Mathlib.Data.Bool.Basic.{dichotomy}
 use native.Mathlib.Omega.{arith}
 use native.Mathlib.Numerals.{add-one}
-use borrow.Author.Tests.{ltb-true, ltb-false, eqb-true, eqb-false, not-true}
-use lib.ListN.{length, getD, take, drop}
+use borrow.Author.Tests.{ltb-true, ltb-false, le-ltb, eqb-true, eqb-false, not-true}
+use lib.ListN.{length, getD, take, drop, drop-of-length-le}
 use lib.Seq.{drop-cons, getD-take}
 use lib.Dec.{ltb, eqb}
 use Rattle.ground.specs.Members.{every, Each, those}
@@ -175,6 +175,21 @@ same-placed false k c d e p q f = same-cell c e p ∙ sym (same-cell d e q)
 taken : (n i : ℕ) (r q : Row) → take n (listed r) ≡ take n (listed q) → i < n → cell r i ≡ cell q i
 taken n i r q e h =
     sym (getD-take n (listed r) i (plain 0) h) ∙ ap (λ (l : List Threshold). getD l i (plain 0)) e ∙ getD-take n (listed q) i (plain 0) h
+
+-- cells that a model lacks are at their default, whatever the setting
+pub lacking-default : (model : Model) (s : Settings) → within model s ≡ true → (x : Setting) → Holding x
+    → drop (fieldCount model x) (listed (row s x)) ≡ drop (fieldCount model x) (listed (settingEntry x .default model))
+lacking-default model s w x h =
+    let f = settingEntry x .fields model in
+    let d = settingEntry x .default model in
+    rw (count-kinds f (few model (setting x)))
+    (behind (f .count) (row s x) d (λ i l n. same-cell _ _ (rw (le-ltb i (f .count) n) at (row-places f (row s x) d (within-rows model s w x h) i l))))
+  where
+    behind : (n : ℕ) (r q : Row) → ((i : ℕ) → i < 3 → n ≤ i → cell r i ≡ cell q i) → drop n (listed r) ≡ drop n (listed q)
+    behind zero r q e = ap listed (rows-same r q (λ i l. e i l (omega arith)))
+    behind (suc zero) r q e = ap₂ (λ (a b : Threshold). a ∷ b ∷ []) (e 1 (omega arith) (omega arith)) (e 2 (omega arith) (omega arith))
+    behind (suc (suc zero)) r q e = ap (λ (a : Threshold). a ∷ []) (e 2 (omega arith) (omega arith))
+    behind (suc (suc (suc n))) r q e = drop-of-length-le (listed r) {i = suc (suc (suc n))} (omega arith) ∙ sym (drop-of-length-le (listed q) {i = suc (suc (suc n))} (omega arith))
 
 module _ (model : Model) (a b : Settings) (wa : within model a ≡ true) (wb : within model b ≡ true) where
   -- where the model has no field both have the default, so the cells that it has decide a whole row

@@ -1,12 +1,14 @@
 -- How a call with a lent output is decided, in the order of the paper's numbers, and what is then in the output.
 use Prim.Native.Nat.{ℕ, _-_, _≤_}
-use mathlib.Core.Path.{_≡_, refl}
+use mathlib.Core.Path.{_≡_, refl, sym, ap, _∙_}
 use mathlib.Core.List.{List, [], _∷_, append-nil}
 use mathlib.Core.Bool.{Bool, true, false, cond, and-true, and-eq-true-iff}
 use borrow.Author.Tests.{leb-true, le-leb}
 use lib.ListN.{length}
 use lib.Dec.{leb}
+use Rattle.gauges.specs.Readings.{withinLimits}
 use Rattle.gauges.specs.declared.reading.Reading.{Reading}
+use Rattle.settings.specs.Kinds.{gaugeKinds}
 use Rattle.instrument.specs.Limits.{gaugeWithin}
 use Rattle.tpg.specs.Answers.{answer, handed, leastOutput}
 use Rattle.tpg.specs.States.{stateWithin}
@@ -59,11 +61,15 @@ module _ (s : State) (channel : ℕ) (r : Reading) where
   unfolding readingCall
   elsewhere e c = rw (e, c)
 
-  pub outside : stateWithin s ≡ true → isChannel (s .instrument .model) channel ≡ true → gaugeWithin (s .instrument .model) r ≡ false → handed (answer 5) s ≡ readingCall s channel r
-  unfolding readingCall
-  outside e c w = rw (e, c, w)
+  -- the reading beside the kinds that the model has
+  module _ (e : stateWithin s ≡ true) (c : isChannel (s .instrument .model) channel ≡ true) (kinds : ℕ) (k : kinds ≡ gaugeKinds (s .instrument .model)) where
+    limits : gaugeWithin (s .instrument .model) r ≡ withinLimits kinds r
+    limits = ap (λ (n : ℕ). withinLimits n r) (sym k)
 
-  pub accepted : stateWithin s ≡ true → isChannel (s .instrument .model) channel ≡ true → gaugeWithin (s .instrument .model) r ≡ true
-      → handed (answer 0) (withReading s (channel - 1) r) ≡ readingCall s channel r
-  unfolding readingCall
-  accepted e c w = rw (e, c, w)
+    pub outside : withinLimits kinds r ≡ false → handed (answer 5) s ≡ readingCall s channel r
+    unfolding readingCall
+    outside w = rw (e, c, limits ∙ w)
+
+    pub accepted : withinLimits kinds r ≡ true → handed (answer 0) (withReading s (channel - 1) r) ≡ readingCall s channel r
+    unfolding readingCall
+    accepted w = rw (e, c, limits ∙ w)

@@ -1,11 +1,9 @@
 -- Each test in its order: the state, the channel, the reading.
-use Prim.Native.Nat.{ℕ}
-use mathlib.Core.Path.{_≡_, sym, ap, _∙_}
+use mathlib.Core.Path.{_≡_, sym, _∙_}
 use mathlib.Core.Bool.{true, false, and-eq-true-iff}
 use mir.Facts.{toZ-ofZ}
 use borrow.Author.Tests.{leb-true}
 use borrow.Author.Needs.{needs}
-use Rattle.gauges.specs.Readings.{withinLimits}
 use Rattle.tpg.specs.Calls.{isChannel}
 use Rattle.tpg.proofs.Deciding.{without-output, unsound, elsewhere, outside, accepted}
 use Rattle.tpg.proofs.State.reading.Statement.{statement}
@@ -32,13 +30,13 @@ with-reading-requires c κs = search needs
 returns : tie.Need-returns
 returns c =
     let t = c .before .before .before .before in
-    let limits = c .before .before .is-within .ensures ∙ ap (λ (n : ℕ). withinLimits n _) (c .before .before .before .kinds .ensures) in
+    let n = c .before .before .before .kinds in
     let i = t .before .before .before in
     let a = i .before .before .args in
     let there : isChannel (a .self .instrument .model) (a .channel) ≡ true = rw (← t .before .channels .ensures) (t .if2 .taken) in
     rw (← toZ-ofZ (i .before .before .fits .mantissa), ← toZ-ofZ (i .before .before .fits .exponent))
     (c .with-reading .ensures ∙ accepted (a .self) (a .channel) _ (sym (i .admits .ensures ∙ without-output (a .self)) ∙ t .before .before .if1 .taken) there
-    (sym limits ∙ c .before .if3 .taken))
+    (n .result) (n .ensures) (sym (c .before .before .is-within .ensures) ∙ c .before .if3 .taken))
 
 with-answer-requires : tie.Need-with-answer-requires
 with-answer-requires c κs = search needs
@@ -46,13 +44,13 @@ with-answer-requires c κs = search needs
 returns-2 : tie.Need-returns-2
 returns-2 c =
     let t = c .before .before .before .before in
-    let limits = c .before .before .is-within .ensures ∙ ap (λ (n : ℕ). withinLimits n _) (c .before .before .before .kinds .ensures) in
+    let n = c .before .before .before .kinds in
     let i = t .before .before .before in
     let a = i .before .before .args in
     let there : isChannel (a .self .instrument .model) (a .channel) ≡ true = rw (← t .before .channels .ensures) (t .if2 .taken) in
     rw (← toZ-ofZ (i .before .before .fits .mantissa), ← toZ-ofZ (i .before .before .fits .exponent))
     (c .with-answer .ensures ∙ outside (a .self) (a .channel) _ (sym (i .admits .ensures ∙ without-output (a .self)) ∙ t .before .before .if1 .taken) there
-    (sym limits ∙ c .before .if3 .left))
+    (n .result) (n .ensures) (sym (c .before .before .is-within .ensures) ∙ c .before .if3 .left))
 
 with-answer-requires-2 : tie.Need-with-answer-requires-2
 with-answer-requires-2 c κs = search needs

@@ -40,7 +40,7 @@ channelChoice model = OfWhole (record { least = 0; most = firstFollowing model +
 
 -- "0.100 to 10.000"; W-201: "CAL 0.100 to 9.990 whichever gauge is there"
 abbrev pub factor : Model → Kind
-factor model = OfFactor (record { least = 100; most = byUnit 10000 9990 model; paired = byUnit 10000 9990 model })
+factor model = let most : ℕ = byUnit 10000 9990 model in OfFactor (record { least = 100; most = most; paired = most })
 
 -- the kinds of the fields, one after the other
 abbrev pub kindsOf : Fields → List Kind
@@ -74,11 +74,11 @@ perChannel low high default model = record { count = channels model; kind = whol
 abbrev pub once : ℕ → ℕ → ℕ → Model → Column
 once low high default model = record { count = 1; kind = whole low high; first = default; second = default }
 
--- "Assignment 3 and ERA 3 need channel 2"
+-- one choice of a channel: "ERA | 0 to 3 | 0"
 abbrev pub choosing : Model → Column
 choosing model = record { count = 1; kind = channelChoice model; first = 0; second = 0 }
 
--- so many factors
+-- so many factors: "0.100 to 10.000 per channel | 1.000"
 abbrev pub factors : ℕ → Model → Column
 factors count model = record { count = count; kind = factor model; first = 1000; second = 1000 }
 

@@ -1,6 +1,7 @@
 // The table of settings, row for row, and the mnemonics beside it: the name of each, its fields and its default.
 ghost use mathlib.Core.Path.{_≡_};
 ghost use mathlib.Core.List.{[], _∷_};
+ghost use Rattle.settings.specs.Models.{byUnit};
 ghost use Rattle.settings.specs.Rows.{pairOf};
 ghost use Rattle.settings.specs.Table.{whole, channelChoice, factor, ofNumbers, single, perChannel, once, choosing, factors, lacking, onBoth, onNewer, onOlder, fieldless, nothing, numbered, switchingEntry, storedEntry, settingEntry, replyingEntry, entry, on, defaults};
 ghost use Rattle.settings.specs.declared.mnemonic.Replying.the-variants.{OfQuery};
@@ -196,14 +197,18 @@ impl Model {
         }
     }
 
+    // The column of the model's unit.
+    fn of_unit(self, newer: Column, older: Column) -> Column
+        ensures { λ r. ⌜ r ≡ byUnit newer older self ⌝ }
+    {
+        if self.is_older() { older } else { newer }
+    }
+
     // A row with a column for a 361 or 362, and one for a 262.
     fn on_both(self, name: [u8; 3], newer: Column, older: Column) -> Entry
         ensures { λ r. ⌜ r ≡ on self (onBoth name (λ m. newer) (λ m. older)) ⌝ }
     {
-        if self.is_older() {
-            return self.of_numbers(name, older);
-        }
-        self.of_numbers(name, newer)
+        self.of_numbers(name, self.of_unit(newer, older))
     }
 
     // One that a 262 lacks.

@@ -1,9 +1,15 @@
--- No model has more than two channels (`channels-few`) and all have one (`first-there`), so the sums fit (`first-few`).
+-- The sums fit: `bounds`.
 use Prim.Native.Nat.{_≤_}
 use borrow.Author.Needs.{needs}
 use Rattle.settings.proofs.Every.{channels-few, channels-some, first-few}
 use Rattle.settings.proofs.model.Model.channel_choice.Statement.{statement}
 use Rattle.settings.proofs.model.Model.channel_choice.Tie as tie
+
+-- two channels at most and one at least, and 2 for the first of them at most
+bounds : (c : tie.After-channels) → (c .channels .result ≤ 2) × (1 ≤ c .channels .result) × (c .before .first-following .result ≤ 2)
+bounds c =
+    let model = c .before .before .args .self in
+    (rw (c .channels .ensures) (channels-few model), rw (c .channels .ensures) (channels-some model), rw (c .before .first-following .ensures) (first-few model))
 
 first-following-requires : tie.Need-first-following-requires
 first-following-requires c κs = search needs
@@ -12,32 +18,16 @@ channels-requires : tie.Need-channels-requires
 channels-requires c κs = search needs
 
 cast-t4 : tie.Need-cast-t4
-cast-t4 c =
-    let few : c .channels .result ≤ 2 = rw (c .channels .ensures) (channels-few (c .before .before .args .self)) in
-    let some : 1 ≤ c .channels .result = rw (c .channels .ensures) (channels-some (c .before .before .args .self)) in
-    let first : c .before .first-following .result ≤ 2 = rw (c .before .first-following .ensures) (first-few (c .before .before .args .self)) in
-    search needs
+cast-t4 c = let b = bounds c in search needs
 
 sub-t5 : tie.Need-sub-t5
-sub-t5 c =
-    let few : c .channels .result ≤ 2 = rw (c .channels .ensures) (channels-few (c .before .before .args .self)) in
-    let some : 1 ≤ c .channels .result = rw (c .channels .ensures) (channels-some (c .before .before .args .self)) in
-    let first : c .before .first-following .result ≤ 2 = rw (c .before .first-following .ensures) (first-few (c .before .before .args .self)) in
-    search needs
+sub-t5 c = let b = bounds c in search needs
 
 add-t6 : tie.Need-add-t6
-add-t6 c =
-    let few : c .channels .result ≤ 2 = rw (c .channels .ensures) (channels-few (c .before .before .args .self)) in
-    let some : 1 ≤ c .channels .result = rw (c .channels .ensures) (channels-some (c .before .before .args .self)) in
-    let first : c .before .first-following .result ≤ 2 = rw (c .before .first-following .ensures) (first-few (c .before .before .args .self)) in
-    search needs
+add-t6 c = let b = bounds c in search needs
 
 add-t7 : tie.Need-add-t7
-add-t7 c =
-    let few : c .channels .result ≤ 2 = rw (c .channels .ensures) (channels-few (c .before .before .args .self)) in
-    let some : 1 ≤ c .channels .result = rw (c .channels .ensures) (channels-some (c .before .before .args .self)) in
-    let first : c .before .first-following .result ≤ 2 = rw (c .before .first-following .ensures) (first-few (c .before .before .args .self)) in
-    search needs
+add-t7 c = let b = bounds c in search needs
 
 returns : tie.Need-returns
 returns c = rw (c .channels .ensures, c .before .first-following .ensures)

@@ -42,14 +42,14 @@ use Rattle.instrument.specs.Events.{written, applied}
 use Rattle.instrument.specs.Limits.{instrumentWithin}
 use Rattle.instrument.specs.Replies.{replyText}
 use Rattle.instrument.specs.declared.Instrument.{Instrument}
-use Rattle.instrument.proofs.InstrumentLimits.{instrument-parts}
+use Rattle.instrument.proofs.InstrumentLimits.{Parts, instrument-parts}
 use Rattle.tpg.specs.States.{stateWithin, Sound}
 use Rattle.tpg.specs.Steps.{next, after, said}
 use Rattle.tpg.specs.declared.State.{State}
 use Rattle.tpg.proofs.HostRun.{after-append, said-append}
 use Rattle.tpg.proofs.StateLimits.{heard-model, after-sound, after-model}
 use Rattle.demands.specs.Wire.{ackLine, End, ended, anew, enquiries, asOften}
-use Rattle.demands.specs.Sheets.{boxModel, boxSettings, Boxes, questions, sheetAsked, sheetReplies, firstLine, behindLine, copyLines, copyOf, linesSent, acks, SheetRead, SheetCopied, SheetCut, SheetsDecide, LackingStays}
+use Rattle.demands.specs.Sheets.{boxModel, boxSettings, Boxes, questions, sheetAsked, sheetReplies, firstLine, behindLine, copyLines, copyOf, linesSent, acks, SheetRead, SheetCopied, SheetCut, SheetsDecide, LackingDefault, LackingStays}
 use Rattle.demands.proofs.Ending.{Line}
 use Rattle.demands.proofs.Typing.{line-judged, line-enquired, line-left, anew-line, anew-instrument, anew-said, anew-after}
 use Rattle.demands.proofs.Spelling.{Character, Typeable, typeable-inner, typeable-line, Short, names-short, name-typeable, setting-characters, line-typeable, name-judged}
@@ -171,9 +171,12 @@ sheet-asked model =
     (λ x sp short. record { short = short; asks = name-asks model x sp }) (sheet model)
     (sheet-each (Spelt model) model (all-spelt model)) (sheet-each (λ (m : Mnemonic). Short (name m)) model (names-short model))
 
-settings-within : (s : State) → Sound s → within (boxModel s) (boxSettings s) ≡ true
+sound-parts : (s : State) → Sound s → Parts (s .instrument)
 unfolding stateWithin
-settings-within s k = instrument-parts (s .instrument) (and-eq-true-iff (instrumentWithin (s .instrument)) (portWithin (boxModel s) (s .port)) .0 (k .within) .0) .settings
+sound-parts s k = instrument-parts (s .instrument) (and-eq-true-iff (instrumentWithin (s .instrument)) (portWithin (boxModel s) (s .port)) .0 (k .within) .0)
+
+settings-within : (s : State) → Sound s → within (boxModel s) (boxSettings s) ≡ true
+settings-within s k = sound-parts s k .settings
 
 sheet-sent : (a : State) → Sound a → Each (Sent (boxModel a) (boxSettings a)) (sheet (boxModel a))
 sheet-sent a k =
@@ -301,5 +304,8 @@ sheets-decide a b both e f =
 
 -- ---- what no sheet names
 
+lacking : (model : Model) (s : Settings) → within model s ≡ true → LackingDefault model s
+lacking model s w = each-map Holding _ (lacking-default model s w) settingsHeld held-holding
+
 pub lacking-stays : LackingStays
-lacking-stays s k = each-map Holding _ (λ x h. lacking-default (boxModel s) (boxSettings s) (settings-within s k) x h) settingsHeld held-holding
+lacking-stays s k = (lacking (boxModel s) (boxSettings s) (settings-within s k), lacking (boxModel s) (s .instrument .saved) (sound-parts s k .saved))

@@ -107,9 +107,10 @@ SheetsDecide says = (a b : State) → Boxes a b → (e f : End) → (says a (she
 
 -- ---- what no sheet names
 
--- W-201: "Cells a model lacks stay at their default", in every state that a box can be in: of every setting, on the model's sheet or not,
--- the cells behind those that the model has
+-- of every setting, on the model's sheet or not, the cells behind those that the model has are at their default
+abbrev pub LackingDefault : Model → Settings → Type 0
+LackingDefault model s = Each (λ (x : Setting). let n = fieldCount model x in drop n (listed (row s x)) ≡ drop n (listed (settingEntry x .default model))) settingsHeld
+
+-- W-201: "Cells a model lacks stay at their default": in every state that a box can be in, of its settings and of its saved set
 abbrev pub LackingStays : Type 0
-LackingStays =
-    (s : State) → Sound s
-    → Each (λ (x : Setting). let n = fieldCount (boxModel s) x in drop n (listed (row (boxSettings s) x)) ≡ drop n (listed (settingEntry x .default (boxModel s)))) settingsHeld
+LackingStays = (s : State) → Sound s → LackingDefault (boxModel s) (boxSettings s) × LackingDefault (boxModel s) (s .instrument .saved)

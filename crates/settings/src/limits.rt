@@ -3,8 +3,8 @@ ghost use mathlib.Core.Path.{_≡_};
 ghost use mathlib.Core.Bool.{cond};
 ghost use Rattle.settings.specs.Limits.{sameCell, inside, fits, rowFits, rowWithin, within};
 use crate::Settings;
-use crate::mnemonic::HELD;
 use crate::mnemonic::Setting;
+use crate::mnemonic::held_at;
 use crate::model::Model;
 use crate::rows::Row;
 use crate::table::Fields;
@@ -79,11 +79,10 @@ impl Settings {
     pub fn is_within(self, model: Model) -> bool
         ensures { λ r. ⌜ r ≡ within model self ⌝ }
     {
-        let held = HELD;
         let mut all = true;
         let mut i: usize = 0;
         while i < 22 {
-            all = all & self.holds(model, held[i]);
+            all = all & self.holds(model, held_at(i));
             i += 1;
         }
         all

@@ -3,8 +3,9 @@ ghost use mathlib.Core.Path.{_≡_};
 ghost use mathlib.Core.List.{[], _∷_};
 ghost use mathlib.Core.Bool.{cond, _&&_};
 ghost use Prim.Native.Nat.{_<_, _-_};
-ghost use lib.ListN.{length};
-ghost use Rattle.settings.specs.Mnemonics.{takes, sheet, sheetAt, knows, mnemonicAt, name, same, recognised, channelOf, isThere, answers, isErr};
+ghost use lib.ListN.{length, getD};
+ghost use Rattle.settings.specs.Mnemonics.{settingsHeld, takes, sheet, sheetAt, knows, mnemonicAt, name, same, recognised, channelOf, isThere, answers, isErr};
+ghost use Rattle.settings.specs.declared.mnemonic.Setting.the-variants.{Uni};
 ghost use Rattle.settings.specs.declared.mnemonic.Replying.the-variants.{OfQuery};
 ghost use Rattle.settings.specs.declared.mnemonic.Mnemonic.the-variants.{OfReplying};
 use crate::model::Model;
@@ -44,7 +45,7 @@ pub enum Mnemonic {
     Sav,
 }
 
-pub(crate) const HELD: [Setting; 22] = [
+const HELD: [Setting; 22] = [
     Setting::Uni,
     Setting::Stored(0),
     Setting::Cal,
@@ -110,6 +111,14 @@ fn still_left(left: usize, taken: bool) -> usize
     left
 }
 
+// A setting that is held, by its place.
+pub(crate) fn held_at(i: usize) -> Setting
+    requires { ⌜ i < 22 ⌝ }
+    ensures { λ r. ⌜ r ≡ getD settingsHeld i Uni ⌝ }
+{
+    HELD[i]
+}
+
 // How many mnemonics there are on all models together.
 const ALL: usize = 34;
 
@@ -119,7 +128,7 @@ fn mnemonic_at(i: usize) -> Mnemonic
     ensures { λ r. ⌜ r ≡ mnemonicAt i ⌝ }
 {
     if i < 22 {
-        return Mnemonic::OfReplying(Replying::OfSetting(HELD[i]));
+        return Mnemonic::OfReplying(Replying::OfSetting(held_at(i)));
     }
     OTHERS[i - 22]
 }
@@ -148,7 +157,7 @@ impl Model {
         let mut left = i;
         let mut j: usize = 0;
         while j < 22 {
-            let x = HELD[j];
+            let x = held_at(j);
             let taken = self.takes(x);
             if taken & (left == 0) {
                 return x;

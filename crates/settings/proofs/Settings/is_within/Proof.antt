@@ -14,20 +14,17 @@ use Rattle.settings.proofs.Settings.is_within.Statement.{statement}
 use Rattle.settings.proofs.Settings.is_within.Tie as tie
 
 abbrev Inv-loop : tie.InvT-loop
-Inv-loop self model table all₀ i₀ all i = (i ≤ 22) × (all && every (rowWithin model self) (take (22 - i) (drop i settingsHeld)) ≡ within model self)
+Inv-loop self model all₀ i₀ all i = (i ≤ 22) × (all && every (rowWithin model self) (take (22 - i) (drop i settingsHeld)) ≡ within model self)
 
 abbrev μ-loop : tie.MeasureT-loop
-μ-loop self model table all₀ i₀ all i = 22 - i
+μ-loop self model all₀ i₀ all i = 22 - i
 
 loop-holds : tie.Need-loop-holds Inv-loop μ-loop
 unfolding within
 loop-holds c = (omega arith, refl)
 
-mul-holds : tie.Need-mul-holds Inv-loop μ-loop
-mul-holds c = search needs
-
-array-copy-out-holds : tie.Need-array-copy-out-holds Inv-loop μ-loop
-array-copy-out-holds c = search needs
+held-at-requires : tie.Need-held-at-requires Inv-loop μ-loop
+held-at-requires c κs = search needs
 
 holds-requires : tie.Need-holds-requires Inv-loop μ-loop
 holds-requires c κs = search needs
@@ -43,7 +40,7 @@ loop-again c =
     let l = c .before .before .before .loop in
     let a = c .before .before .before .before .args in
     let p = rowWithin (a .model) (a .self) in
-    (omega arith, rw (c .holds .ensures) (range-next p Uni settingsHeld (l .i) 22 (l .all) (c .before .before .loop-test .taken) (omega arith)) ∙ l .inv .1)
+    (omega arith, rw (c .holds .ensures, c .before .held-at .ensures) (range-next p Uni settingsHeld (l .i) 22 (l .all) (c .before .before .loop-test .taken) (omega arith)) ∙ l .inv .1)
 
 returns : tie.Need-returns Inv-loop μ-loop
 returns c =
@@ -58,8 +55,7 @@ is-within-spec =
     Inv-loop
     μ-loop
     loop-holds
-    mul-holds
-    array-copy-out-holds
+    held-at-requires
     holds-requires
     add-i
     loop-less

@@ -20,15 +20,16 @@ Inv-loop self i left₀ j₀ left j = (j ≤ 22) × (getD (those (takes self) (d
 abbrev μ-loop : tie.MeasureT-loop
 μ-loop self i left₀ j₀ left j = 22 - j
 
+-- whether the model takes the setting at j
+taken : (c : tie.After-takes Inv-loop μ-loop) → c .takes .result ≡ takes (c .before .before .before .before .args .self) (getD settingsHeld (c .before .before .before .loop .j) Uni)
+taken c = c .takes .ensures ∙ ap (takes (c .before .before .before .before .args .self)) (c .before .held-at .ensures)
+
 loop-holds : tie.Need-loop-holds Inv-loop μ-loop
 unfolding sheet
 loop-holds c = (omega arith, refl)
 
-mul-x : tie.Need-mul-x Inv-loop μ-loop
-mul-x c = search needs
-
-array-copy-out-x : tie.Need-array-copy-out-x Inv-loop μ-loop
-array-copy-out-x c = search needs
+held-at-requires : tie.Need-held-at-requires Inv-loop μ-loop
+held-at-requires c κs = search needs
 
 takes-requires : tie.Need-takes-requires Inv-loop μ-loop
 takes-requires c κs = search needs
@@ -38,7 +39,8 @@ returns c =
     let t = c .before in
     let l = t .before .before .before .loop in
     let a = t .before .before .before .before .args in
-    sym (line-here (takes (a .self)) settingsHeld (l .j) (l .left) Uni (t .before .before .loop-test .taken) (rw (← t .takes .ensures) (c .if1 .taken))) ∙ l .inv .1
+    t .before .held-at .ensures
+    ∙ sym (line-here (takes (a .self)) settingsHeld (l .j) (l .left) Uni (t .before .before .loop-test .taken) (rw (← taken t) (c .if1 .taken))) ∙ l .inv .1
 
 still-left-requires : tie.Need-still-left-requires Inv-loop μ-loop
 still-left-requires c κs = search needs
@@ -53,18 +55,14 @@ loop-again : tie.Need-loop-again Inv-loop μ-loop
 loop-again c =
     let t = c .before .before in
     let l = t .before .before .before .loop in
-    let a = t .before .before .before .before .args in
-    let x = getD settingsHeld (l .j) Uni in (
+    let a = t .before .before .before .before .args in (
       omega arith,
-      ap (λ (n : ℕ). getD (those (takes (a .self)) (drop (l .j + 1) settingsHeld)) n Uni) (c .still-left .ensures ∙ ap (λ (b : Bool). cond b (l .left - 1) (l .left)) (t .takes .ensures))
-          ∙ sym (line-behind (takes (a .self)) settingsHeld (l .j) (l .left) Uni (t .before .before .loop-test .taken) (rw (← t .takes .ensures) (c .before .if1 .left))) ∙ l .inv .1,
+      ap (λ (n : ℕ). getD (those (takes (a .self)) (drop (l .j + 1) settingsHeld)) n Uni) (c .still-left .ensures ∙ ap (λ (b : Bool). cond b (l .left - 1) (l .left)) (taken t))
+          ∙ sym (line-behind (takes (a .self)) settingsHeld (l .j) (l .left) Uni (t .before .before .loop-test .taken) (rw (← taken t) (c .before .if1 .left))) ∙ l .inv .1,
     )
 
 returns-2 : tie.Need-returns-2 Inv-loop μ-loop
-returns-2 c =
-    let l = c .before .loop in
-    let a = c .before .before .args in
-    rw (drop-of-length-le settingsHeld (c .loop-test .left)) at (l .inv .1)
+returns-2 c = rw (drop-of-length-le settingsHeld (c .loop-test .left)) at (c .before .loop .inv .1)
 
 pub sheet-at-spec : {M : Type 1} → statement M
 sheet-at-spec =
@@ -73,8 +71,7 @@ sheet-at-spec =
     Inv-loop
     μ-loop
     loop-holds
-    mul-x
-    array-copy-out-x
+    held-at-requires
     takes-requires
     returns
     still-left-requires

@@ -98,6 +98,21 @@ static const struct box_model models[] = {
     { 262, 2, TPG_26X, 0, NULL }
 };
 
+/* How many of the unit are one hPa: a fraction and a power of ten. */
+struct unit {
+    uint16_t times, over;
+    int8_t power;
+};
+
+/* 760 Torr are 101325 Pa, and a thousand micron are one Torr. */
+static const struct unit units[] = {
+    [UNIT_MBAR] = { 1, 1, 0 },
+    [UNIT_TORR] = { 3040, 4053, 0 },
+    [UNIT_PA] = { 1, 1, 2 },
+    [UNIT_MICRON] = { 3040, 4053, 3 },
+    [UNIT_HPA] = { 1, 1, 0 }
+};
+
 static const uint16_t stream_interval[] = { 1, 10, 600 };
 
 /* A kind without a name is not of the family. */
@@ -108,6 +123,9 @@ static const char *const kind_name[FAMILIES][KINDS] = {
 
 static const struct box_number preset_lower = { 10000, -9 };
 static const struct box_number preset_upper = { 90000, -7 };
+
+static const struct box_number least_threshold = { 10000, -20 };
+static const struct box_number greatest_threshold = { 99999, 20 };
 
 static const struct box_reading no_reading = { KIND_NO_SENSOR, STATUS_NO_SENSOR, { 0, 0 } };
 
@@ -200,25 +218,61 @@ enum box_answer box_fresh(struct box *box, unsigned model, uint32_t serial)
     return good ? BOX_DONE : BOX_BAD_MODEL_OR_SERIAL;
 }
 
-/* ---- Shown values and switching ---- */
+/* ---- Numbers and units ---- */
 
-/* 760 Torr are 101325 Pa; no half can arise, as 4053 is odd. */
-static struct box_number torr_from_hpa(struct box_number hpa)
+/* Value over divisor times a power of ten, to five digits, half upwards; zero stays zero. */
+static struct box_number round_to_five(uint64_t value, uint64_t divisor, int32_t power)
 {
-    const uint32_t divisor = 4053;
-    bool minus = hpa.mantissa < 0;
-    uint32_t scaled = (uint32_t)(minus ? -hpa.mantissa : hpa.mantissa) * 3040;
-    struct box_number torr = { 0, hpa.exponent };
+    struct box_number number = { 0, power + 4 };
 
-    if (scaled < 10000 * divisor) {
-        scaled *= 10;
-        torr.exponent -= 1;
+    if (value == 0)
+        return number;
+    while (value < 10000 * divisor) {
+        value *= 10;
+        number.exponent--;
     }
-    torr.mantissa = (int32_t)((scaled + divisor / 2) / divisor);
-    if (minus)
-        torr.mantissa = -torr.mantissa;
-    return torr;
+    while (value / divisor > 99999) {
+        divisor *= 10;
+        number.exponent++;
+    }
+    value = (value + divisor / 2) / divisor;
+    if (value > 99999) {
+        value = 10000;
+        number.exponent++;
+    }
+    number.mantissa = (int32_t)value;
+    return number;
 }
+
+/* Rounds once, from the exact factor between the two units; only the magnitude is rounded. */
+static struct box_number in_unit(struct box_number number, unsigned from, unsigned to)
+{
+    const struct unit *old = &units[from];
+    const struct unit *new = &units[to];
+    bool minus = number.mantissa < 0;
+    uint64_t magnitude = (uint64_t)(minus ? -number.mantissa : number.mantissa);
+
+    number = round_to_five(magnitude * old->over * new->times,
+                           (uint64_t)old->times * new->over,
+                           number.exponent - 4 + new->power - old->power);
+    if (minus)
+        number.mantissa = -number.mantissa;
+    return number;
+}
+
+/* Beyond an end stop it is held there, so going back does not restore it. */
+static struct box_number threshold_in_unit(struct box_number threshold, unsigned from,
+                                           unsigned to)
+{
+    threshold = in_unit(threshold, from, to);
+    if (threshold.exponent < least_threshold.exponent)
+        return least_threshold;
+    if (threshold.exponent > greatest_threshold.exponent)
+        return greatest_threshold;
+    return threshold;
+}
+
+/* ---- Shown values and switching ---- */
 
 /* The value as PRx and the stream send it, in the present unit. */
 static struct box_number shown_value(const struct box *box, const struct box_reading *reading)
@@ -227,19 +281,7 @@ static struct box_number shown_value(const struct box *box, const struct box_rea
 
     if (value.mantissa == 0)
         return value;
-    switch (box->settings.cell[UNI][0]) {
-    case UNIT_TORR:
-        value = torr_from_hpa(value);
-        break;
-    case UNIT_MICRON:
-        value = torr_from_hpa(value);
-        value.exponent += 3;
-        break;
-    case UNIT_PA:
-        value.exponent += 2;
-        break;
-    }
-    return value;
+    return in_unit(value, UNIT_HPA, box->settings.cell[UNI][0]);
 }
 
 /* Below, at or above: -1, 0, 1; a threshold is positive, so zero and negative lie below. */
@@ -531,31 +573,6 @@ static bool read_exponent(const char *at, const char *end, int32_t *exponent)
     return after > at && after == end;
 }
 
-/* Value times a power of ten, to five significant digits, half upwards; zero stays zero. */
-static struct box_number round_to_five(uint64_t value, int32_t power)
-{
-    struct box_number number = { 0, power + 4 };
-    uint64_t divisor = 1;
-
-    if (value == 0)
-        return number;
-    while (value < 10000) {
-        value *= 10;
-        number.exponent--;
-    }
-    while (value / divisor > 99999) {
-        divisor *= 10;
-        number.exponent++;
-    }
-    value = (value + divisor / 2) / divisor;
-    if (value > 99999) {
-        value = 10000;
-        number.exponent++;
-    }
-    number.mantissa = (int32_t)value;
-    return number;
-}
-
 static bool read_threshold(const char *at, const char *end, struct box_number *number)
 {
     const ptrdiff_t most = 12;
@@ -574,7 +591,7 @@ static bool read_threshold(const char *at, const char *end, struct box_number *n
     }
     if (digits + decimals == 0 || !read_exponent(after, end, &exponent))
         return false;
-    *number = round_to_five(value, exponent - (int32_t)decimals);
+    *number = round_to_five(value, 1, exponent - (int32_t)decimals);
     return true;
 }
 
@@ -645,7 +662,8 @@ static uint8_t check_value(const struct box *box, enum mnemonic mnemonic, int fi
     uint8_t needs_channel_2 = rules[mnemonic].needs_channel_2;
 
     if (form_of_field(mnemonic, field) == THRESHOLD) {
-        bool good = value.mantissa != 0 && value.exponent >= -20 && value.exponent <= 20;
+        bool good = value.mantissa != 0 && value.exponent >= least_threshold.exponent &&
+                    value.exponent <= greatest_threshold.exponent;
         return good ? NO_FAULT : INADMISSIBLE;
     }
     if (value.mantissa < limits->low || value.mantissa > limits->high)
@@ -653,6 +671,18 @@ static uint8_t check_value(const struct box *box, enum mnemonic mnemonic, int fi
     if (box->model->channels == 1 && needs_channel_2 != 0 && value.mantissa == needs_channel_2)
         return NO_HARDWARE;
     return NO_FAULT;
+}
+
+/* Switch statuses wait for the next reading; the saved set has a unit of its own. */
+static void set_unit(struct box_settings *settings, uint16_t unit)
+{
+    uint16_t old = settings->cell[UNI][0];
+
+    for (int i = 0; i < BOX_SWITCHES; i++) {
+        settings->lower[i] = threshold_in_unit(settings->lower[i], old, unit);
+        settings->upper[i] = threshold_in_unit(settings->upper[i], old, unit);
+    }
+    settings->cell[UNI][0] = unit;
 }
 
 static void set_switching(struct box *box, int i, const struct box_number *value)
@@ -676,6 +706,9 @@ static void store_fields(struct box *box, enum mnemonic mnemonic, int fields,
                          const struct box_number *value)
 {
     switch (mnemonic) {
+    case UNI:
+        set_unit(&box->settings, (uint16_t)value[0].mantissa);
+        break;
     case SP1: case SP2: case SP3: case SP4:
         set_switching(box, (int)mnemonic - SP1, value);
         break;

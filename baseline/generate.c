@@ -1173,7 +1173,7 @@ static struct decimal moved(struct decimal value, int by)
 	return value;
 }
 
-/* UNI is the first of every sheet. */
+/* UNI is the first of every sheet, and SP1 to SP4 stand in the same places. */
 static int some_unit(void)
 {
 	return between(model->mnemonics->low, model->mnemonics->high);
@@ -1190,23 +1190,30 @@ static void set_unit(int unit)
 	send(&line);
 }
 
-static void set_switching(int channel, struct decimal near)
+static void set_function(int function, int assignment, struct decimal lower,
+			 struct decimal upper)
 {
-	struct decimal lower = moved(near, between(-3, 2));
-	struct decimal upper = moved(lower, between(-1, 5));
 	struct text line;
 
 	begin(&line);
 	put_string(&line, "SP");
-	put_number(&line, between(1, 4), 1);
+	put_number(&line, function, 1);
 	put(&line, ',');
-	put_number(&line, model->channel_1 + channel - 1, 1);
+	put_number(&line, assignment, 1);
 	put(&line, ',');
 	put_shown_threshold(&line, lower);
 	put(&line, ',');
 	put_shown_threshold(&line, upper);
 	put(&line, CR);
 	send(&line);
+}
+
+static void set_switching(int channel, struct decimal near)
+{
+	struct decimal lower = moved(near, between(-3, 2));
+	struct decimal upper = moved(lower, between(-1, 5));
+
+	set_function(between(1, 4), model->channel_1 + channel - 1, lower, upper);
 }
 
 static void read_near(struct reading reading)
@@ -1240,10 +1247,96 @@ static void play_thresholds(void)
 		read_near(reading);
 		if (chance(80))
 			send_repeated(ENQ, 1);
-		if (chance(6)) {
+		if (chance(12)) {
 			set_unit(some_unit());
 			send_string("SPS\r\005");
 		}
+	}
+}
+
+/* ---- Thresholds that follow the unit ---- */
+
+/* At an end stop, or where a rounding from Torr to hPa is a half or carries. */
+static struct decimal some_following_threshold(void)
+{
+	static const int odd[] = {75005, 75006, 75007, 75999, 76000, 76001};
+	static const int ends[] = {-20, -19, -18, -17, 17, 18, 19, 20};
+	struct decimal value = {some_digits(), 0};
+
+	value.exponent = chance(40) ? PICK(ends) : between(-20, 20);
+	switch (below(6)) {
+	case 0: value.exponent = between(-20, -16); break;
+	case 1: value.exponent = between(16, 20); break;
+	case 2: value.digits = PICK(odd); break;
+	case 3: value.digits = 1520 * (2 * between(3, 24) + 1); break;
+	case 4:
+		value.digits = 1520 * (2 * between(3, 24) + 1);
+		return moved(value, chance(50) ? 1 : -1);
+	default: break;
+	}
+	return value;
+}
+
+/* Every assignment, since a function that is off follows too. */
+static void set_some_function(int function)
+{
+	const struct mnemonic *mnemonic = &model->mnemonics[3 + function];
+	int assignment = between(mnemonic->low, highest(mnemonic));
+	struct decimal lower = some_following_threshold();
+	struct decimal upper = some_following_threshold();
+
+	set_function(function, assignment, lower, upper);
+}
+
+static void ask_thresholds(void)
+{
+	send_string("SP1\r\005SP2\r\005SP3\r\005SP4\r\005UNI\r\005SPS\r\005");
+}
+
+static void save_or_lose(void)
+{
+	static const char *const saves[] = {"SAV,1\r", "SAV,1\r", "SAV,0\r", "SAV\r"};
+
+	if (chance(60)) {
+		send_string(PICK(saves));
+	} else {
+		power_cycle();
+		ask_thresholds();
+	}
+}
+
+/* A refused line and a unit to itself are steps of the walk too. */
+static void change_unit(void)
+{
+	struct text line;
+
+	if (chance(85)) {
+		set_unit(some_unit());
+		return;
+	}
+	begin(&line);
+	put_edge_line(&line, &model->mnemonics[0]);
+	put(&line, CR);
+	send(&line);
+}
+
+static void play_units(void)
+{
+	set_unit(some_unit());
+	for (int function = 1; function <= 4; function++)
+		if (chance(60))
+			set_some_function(function);
+	for (int steps = between(2, 5); steps > 0; steps--) {
+		if (chance(20))
+			save_or_lose();
+		change_unit();
+		if (chance(10))
+			some_ticks();
+		ask_thresholds();
+	}
+	if (chance(30)) {
+		power_cycle();
+		ask_thresholds();
 	}
 }
 
@@ -1272,7 +1365,10 @@ static void stop_stream(void)
 {
 	static const int bytes[] = {' ', LF, ENQ, ETX, CR, 'P', ',', 0, 127, 255};
 
-	send_repeated(PICK(bytes), 1);
+	if (chance(15))
+		change_unit();
+	else
+		send_repeated(PICK(bytes), 1);
 	if (chance(30))
 		send_repeated(LF, between(1, 2));
 	some_ticks();
@@ -1371,7 +1467,10 @@ static void play_sheet(void)
 	send_sheet(sheet, first->sheet_length);
 	/* Mostly the same model; another one has to refuse some lines. */
 	fresh_box(chance(65) ? first : &PICK(models));
-	send_sheet(sheet, first->sheet_length);
+	/* What a cut sheet leaves of a second box's own shows in its thresholds. */
+	if (chance(50))
+		change_settings(between(1, 12));
+	send_sheet(sheet, chance(40) ? 1 + below(8) : first->sheet_length);
 }
 
 static void play_power_on(void)
@@ -1519,6 +1618,7 @@ static void play_a_scenario(void)
 		{25, play_bad_line},     {20, play_full_frame},
 		{8, play_odd_bytes},     {20, play_pieces},
 		{25, play_malformed},    {60, play_limits},
+		{120, play_units},
 	};
 	unsigned total = 0;
 	unsigned chosen;

@@ -28,6 +28,15 @@ module _ {A : Type 0} where
   pub alike : (f g : ℕ → A) (n : ℕ) → entries f n 0 ≡ entries g n 0 → (k : ℕ) → k < n → f k ≡ g k
   alike f g n e k h = tabled f n (entries g n 0) e k (f k) h ∙ sym (tabled g n (entries g n 0) refl k (f k) h)
 
+  -- a list is all that it has at its places
+  entries-behind : (x : A) (xs : List A) (d : A) (n i : ℕ) → entries (λ k. getD (x ∷ xs) k d) n (suc i) ≡ entries (λ k. getD xs k d) n i
+  entries-behind x xs d zero i = refl
+  entries-behind x xs d (suc n) i = ap (λ (l : List A). getD xs i d ∷ l) (entries-behind x xs d n (suc i))
+
+  pub entries-all : (l : List A) (d : A) → entries (λ k. getD l k d) (length l) 0 ≡ l
+  entries-all [] d = refl
+  entries-all (x ∷ xs) d = ap (λ (l : List A). x ∷ l) (entries-behind x xs d (length xs) 0 ∙ entries-all xs d)
+
   -- an entry does not depend on what stands for a missing one
   pub entry : (l : List A) (d e : A) (k : ℕ) → k < length l → getD l k d ≡ getD l k e
   entry [] d e k h = absurd (not-suc-le-zero h)

@@ -5,8 +5,8 @@ use mathlib.Core.Bool.{true, false}
 use mathlib.Core.List.{List, [], _∷_, map}
 use lib.IntN.{ℤ, pos, negsuc, natAbs}
 use Rattle.numbers.specs.Numbers.{withinStops, isFive, isZero, isNumber, less, isBelow}
-use Rattle.numbers.specs.Rounding.{climbWithin, digits, power, rounded, isUsable}
-use Rattle.numbers.specs.Units.{ratio}
+use Rattle.numbers.specs.Rounding.{climbWithin, digits, power, rounded, isUsable, heldWithin, multipliedBy}
+use Rattle.numbers.specs.Units.{ratio, reExpressed}
 use Rattle.numbers.specs.declared.threshold.Threshold.{Threshold}
 use Rattle.numbers.specs.declared.value.Value.{Value}
 
@@ -51,3 +51,13 @@ ratio-parts = refl
 -- 7, -7 and the least number of 32 bits
 pub magnitudes : map natAbs (pos 7 ∷ negsuc 6 ∷ negsuc 2147483647 ∷ []) ≡ 7 ∷ 7 ∷ 2147483648 ∷ []
 magnitudes = refl
+
+-- W-202: 760 and 1.064 Torr in mbar, exact halves; 1E20 hPa in Pa and 1E-20 hPa in Torr, beyond the end stops; 1 Torr in micron, which through
+-- hPa would be 999.98; 1.3333 hPa in Torr and that in hPa; what is no threshold
+pub in-another-unit : reExpressed 1 0 (threshold 76000 (pos 2)) ∷ reExpressed 1 0 (threshold 10640 (pos 0)) ∷ reExpressed 4 2 (threshold 10000 (pos 20))
+    ∷ reExpressed 4 1 (threshold 10000 (negsuc 19)) ∷ reExpressed 1 3 (threshold 10000 (pos 0)) ∷ reExpressed 4 1 (threshold 13333 (pos 0))
+    ∷ reExpressed 1 4 (threshold 10001 (pos 0)) ∷ reExpressed 4 2 (threshold 1 (pos 0)) ∷ []
+    ≡ threshold 10133 (pos 3) ∷ threshold 14186 (pos 0) ∷ threshold 99999 (pos 20) ∷ threshold 10000 (negsuc 19) ∷ threshold 10000 (pos 3) ∷ threshold 10001 (pos 0)
+    ∷ threshold 13334 (pos 0) ∷ threshold 1 (pos 0) ∷ []
+unfolding less climbWithin digits power rounded heldWithin multipliedBy
+in-another-unit = refl

@@ -2,8 +2,10 @@ pub mod Signed
 pub mod Climb
 pub mod Fractions
 pub mod Nearest
-pub mod Scaling
 pub mod Stops
 pub mod Order
-pub mod Instances
+pub mod Exact
+pub mod Scaling
+pub mod Holding
 pub mod UnitFactors
+pub mod Instances

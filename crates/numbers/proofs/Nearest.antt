@@ -266,20 +266,6 @@ pub nearest-only : {p n d : ℕ} {x : ℤ} {t u : Threshold} → 0 < d → Neare
     → levelled t u ≡ levelled u t
 nearest-only z r s a b = omega (arith, nearest-at-most z r s a b (omega arith), nearest-at-most z s r b a (omega arith))
 
--- a number of p digits stays as it is
-module _ (p m : ℕ) (h : OfDigits p m) where
-  stays-up : up p m 1 ≡ 0
-  stays-up = climb-none m (1 * least p) (omega arith)
-
-  stays-down : down p m 1 ≡ 0
-  stays-down = let l = div-lt-iff-lt-mul {k = 10 * least p} {x = m} {y = 1} (omega arith) .1 (omega arith) in climb-none 1 (m / (10 * least p) + 1) (omega arith)
-
-  pub round-exact : (e : ℤ) → rounded p m 1 (e -ℤ pos (p - 1)) ≡ record { mantissa = m; exponent = e }
-  unfolding digits power rounded
-  round-exact e =
-      let same : nearest (m * 10 ^ 0) (1 * 10 ^ 0) ≡ m = omega arith in
-      rw (stays-up, stays-down, same, add-zero, -ℤ-+ℤ-cancel, +ℤ-idr, ne-eqb m (10 * least p) (λ q. omega arith))
-
 -- the test for five digits
 pub of-five : (m : ℕ) → fiveDigits m ≡ true → OfDigits five m
 of-five m h = let b = in-range 10000 99999 m h in omega arith

@@ -3,8 +3,9 @@ use Prim.Native.Nat.{ℕ, zero, suc, _*_, _^_, _≤_, _<_}
 use mathlib.Core.Path.{_≡_, refl, sym, ap, _∙_, subst}
 use mathlib.Core.Bool.{Bool, true, false, _&&_, and-eq-true-iff}
 use mathlib.Core.Logic.{⊎-elim}
+use mathlib.Mathlib.Data.Bool.Basic.{dichotomy}
 use native.Mathlib.Omega.{arith}
-use native.Mathlib.Nat.{pow-suc, pow-le-pow-right, one-le-pow, zero-mul, mul-pos, mul-le-mul, mul-le-mul-right, mul-lt-mul-of-pos-right, le-antisymm, le-of-lt}
+use native.Mathlib.Nat.{pow-suc, pow-le-pow-right, one-le-pow, zero-mul, mul-pos, mul-le-mul, mul-le-mul-right, mul-lt-mul-of-pos-right, eq-of-mul-eq-mul-right, le-antisymm, le-of-lt}
 use borrow.Author.Tests.{ltb-true, ltb-false, leb-true, leb-false, lt-ltb, le-ltb, ne-eqb}
 use lib.Dec.{T, ltb}
 use lib.IntN.{ℤ, pos, negsuc, negℤ, natAbs, _*ℤ_}
@@ -14,6 +15,7 @@ use mir.Val.{Fits, SFits, toZ, ofZ}
 use mir.Facts.{toZ-ofZ, fits-natAbs}
 use Rattle.ground.proofs.Cases.{below, and-both, and-not-both}
 use Rattle.numbers.specs.Numbers.{five, OfDigits, isNumber, withinStops, tens, tenths, less, asValue, unsigned, isBelow, isAbove}
+use Rattle.numbers.specs.Rounding.{levelled}
 use Rattle.numbers.specs.declared.threshold.Threshold.{Threshold}
 use Rattle.numbers.specs.declared.value.Value.{Value}
 use Rattle.numbers.proofs.Nearest.{of-five}
@@ -48,8 +50,8 @@ tenfold (negsuc a) (negsuc b) h =
     let l : suc (suc b) ≤ suc a = omega (arith, ltb-true b a h) in
     omega (arith, pow-suc 10 (suc b), pow-le-pow-right {n = 10} (omega arith) l)
 
-five-below : (m n p q : ℕ) → OfDigits five m → OfDigits five n → 0 < p → 10 * p ≤ q → m * p < n * q
-five-below m n p q hm hn hp hq = omega (arith, mul-le-mul-right p (hm .1), mul-le-mul (hn .0) hq)
+digits-below : (c m n p q : ℕ) → OfDigits c m → OfDigits c n → 0 < p → 10 * p ≤ q → m * p < n * q
+digits-below c m n p q hm hn hp hq = omega (arith, mul-le-mul-right p (hm .1), mul-le-mul (hn .0) hq)
 
 -- a factor that is not zero keeps the order
 factor : (m n p : ℕ) → 0 < p → ltb (m * p) (n * p) ≡ ltb m n
@@ -62,14 +64,31 @@ abbrev pub smaller : ℕ → ℤ → ℕ → ℤ → Bool
 smaller m e n f = ltb (m * (tens e * tenths f)) (n * (tens f * tenths e))
 
 module _ (m : ℕ) (e : ℤ) (n : ℕ) (f : ℤ) where
-  pub lower-exponent : OfDigits five m → OfDigits five n → ltZ e f ≡ true → smaller m e n f ≡ true
-  lower-exponent hm hn h = lt-ltb _ _ (five-below m n _ _ hm hn (powers e f) (tenfold e f h))
+  module _ (c : ℕ) (hm : OfDigits c m) (hn : OfDigits c n) where
+    pub lower-exponent : ltZ e f ≡ true → smaller m e n f ≡ true
+    lower-exponent h = lt-ltb _ _ (digits-below c m n _ _ hm hn (powers e f) (tenfold e f h))
 
-  pub higher-exponent : OfDigits five m → OfDigits five n → ltZ f e ≡ true → smaller m e n f ≡ false
-  higher-exponent hm hn h = le-ltb _ _ (le-of-lt (five-below n m _ _ hn hm (powers f e) (tenfold f e h)))
+    pub higher-exponent : ltZ f e ≡ true → smaller m e n f ≡ false
+    higher-exponent h = le-ltb _ _ (le-of-lt (digits-below c n m _ _ hn hm (powers f e) (tenfold f e h)))
 
   pub same-exponent : ltZ e f ≡ false → ltZ f e ≡ false → smaller m e n f ≡ ltb m n
   same-exponent h k = rw (not-lt-not-gt e f h k) (factor m n _ (powers f f))
+
+-- a number has its digits once
+pub same-number : (c : ℕ) (t u : Threshold) → OfDigits c (t .mantissa) → OfDigits c (u .mantissa) → levelled t u ≡ levelled u t → t ≡ u
+same-number c t u ht hu q =
+    ⊎-elim (λ (n : ltZ (t .exponent) (u .exponent) ≡ false).
+    ⊎-elim (λ (k : ltZ (u .exponent) (t .exponent) ≡ false). together (not-lt-not-gt (t .exponent) (u .exponent) n k))
+    (λ (l : ltZ (u .exponent) (t .exponent) ≡ true). absurd (omega (arith, ltb-true (levelled u t) (levelled t u) (lower-exponent (u .mantissa) (u .exponent) (t .mantissa) (t .exponent) c hu ht l))))
+    (dichotomy (ltZ (u .exponent) (t .exponent))))
+    (λ (l : ltZ (t .exponent) (u .exponent) ≡ true). absurd (omega (arith, ltb-true (levelled t u) (levelled u t) (lower-exponent (t .mantissa) (t .exponent) (u .mantissa) (u .exponent) c ht hu l))))
+    (dichotomy (ltZ (t .exponent) (u .exponent)))
+  where
+    together : t .exponent ≡ u .exponent → t ≡ u
+    together e =
+        let p = powers (u .exponent) (u .exponent) in
+        let m : t .mantissa ≡ u .mantissa = eq-of-mul-eq-mul-right _ p (t .mantissa) (u .mantissa) (rw e at q) in
+        λ i. record { mantissa = m i; exponent = e i }
 
 neg-lt : (k n : ℕ) → 0 < k → ltZ (negℤ (pos k)) (pos n) ≡ true
 neg-lt zero n h = absurd (omega arith)

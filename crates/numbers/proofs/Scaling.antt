@@ -1,20 +1,21 @@
 -- A value times a ratio: what is carried, that the result is the nearest of five digits, and that the sign is kept.
-use Prim.Native.Nat.{ℕ, _+_, _*_, _≤_}
+use Prim.Native.Nat.{ℕ, _+_, _*_, _^_, _≤_}
 use mathlib.Core.Path.{_≡_, refl}
 use mathlib.Core.Bool.{true, false, _&&_, and-eq-true-iff}
 use mathlib.Core.Logic.{⊎-elim}
 use mathlib.Mathlib.Data.Bool.Basic.{dichotomy}
 use native.Mathlib.Omega.{arith}
-use native.Mathlib.Nat.{mul-le-mul, mul-one}
+use native.Mathlib.Nat.{mul-le-mul}
 use lib.Dec.{leb}
-use lib.IntN.{ℤ, pos, negsuc, natAbs, _-ℤ_}
+use lib.IntN.{ℤ, pos, negsuc, natAbs, _+ℤ_, _-ℤ_}
 use Rattle.ground.proofs.Cases.{in-range}
 use Rattle.numbers.specs.Numbers.{five, OfDigits, fiveDigits, between, isFive, signed, unsigned}
 use Rattle.numbers.specs.Rounding.{isUsable, product, scaledBy, Nearest}
 use Rattle.numbers.specs.declared.value.Value.{Value}
 use Rattle.numbers.specs.declared.value.Ratio.{Ratio}
 use Rattle.numbers.proofs.Signed.{abs-minus, abs-neg, between-near}
-use Rattle.numbers.proofs.Nearest.{Count, Rounds, rounded-digits, rounded-near, rounded-nearest, round-exact, of-five}
+use Rattle.numbers.proofs.Nearest.{Count, Rounds, rounded-digits, rounded-near, rounded-nearest, of-five}
+use Rattle.numbers.proofs.Exact.{round-power}
 
 abs-signed : (z : ℤ) (m : ℕ) → natAbs (signed z m) ≡ m
 abs-signed (pos n) m = refl
@@ -41,6 +42,12 @@ module _ (v : Value) (r : Ratio) (h : isFive v && isUsable r ≡ true) where
     -- it is the number of p digits nearest to the exact one
     pub product-nearest : Nearest p (natAbs (v .mantissa) * r .over) (r .under) (v .exponent -ℤ pos 4) (product p v r)
     product-nearest = rounded-nearest p _ _ product-rounds (v .exponent -ℤ pos 4)
+
+  -- by a ratio of ten to the j over ten to the i only the exponent moves
+  pub product-power : (i j : ℕ) (f : ℤ) → r .over * 10 ^ i ≡ r .under * 10 ^ j → f +ℤ pos i ≡ v .exponent +ℤ pos j
+      → product five v r ≡ record { mantissa = natAbs (v .mantissa); exponent = f }
+  product-power i j f =
+      round-power five (natAbs (v .mantissa)) (r .over) (r .under) i j (v .exponent) f (product-rounds five (omega arith)) (value-range .0)
 
   pub scaled-is : scaledBy v r ≡ record { mantissa = signed (v .mantissa) (product five v r .mantissa); exponent = product five v r .exponent }
   unfolding scaledBy
@@ -75,6 +82,4 @@ scaled-not v r h = rw h
 pub scaled-one : (v : Value) (r : Ratio) → r .over ≡ 1 → r .under ≡ 1 → v ≡ scaledBy v r
 scaled-one v r o u =
     ⊎-elim (scaled-not v r) (λ (h : isFive v && isUsable r ≡ true).
-    let m = natAbs (v .mantissa) in
-    let same : product five v r ≡ record { mantissa = m; exponent = v .exponent } = rw (o, u, mul-one m) (round-exact five m (value-range v r h .0) (v .exponent)) in
-    rw (scaled-is v r h, same, signed-abs)) (dichotomy (isFive v && isUsable r))
+    rw (scaled-is v r h, product-power v r h 0 0 (v .exponent) (omega arith) refl, signed-abs)) (dichotomy (isFive v && isUsable r))

@@ -2,9 +2,9 @@
 use Prim.Native.Nat.{ℕ, zero, suc, _+_, _-_, _*_, _/_, _^_, _≤_, _<_}
 use mathlib.Core.Bool.{Bool, cond, _&&_}
 use lib.Dec.{ltb, eqb}
-use lib.IntN.{ℤ, pos, natAbs, _+ℤ_, _-ℤ_}
+use lib.IntN.{ℤ, pos, negsuc, natAbs, _+ℤ_, _-ℤ_}
 use Rattle.ground.specs.Ranges.{inRange}
-use Rattle.numbers.specs.Numbers.{five, least, OfDigits, isFive, withinStops, signed, tens, tenths}
+use Rattle.numbers.specs.Numbers.{five, least, OfDigits, isFive, withinStops, less, asValue, signed, tens, tenths}
 use Rattle.numbers.specs.declared.threshold.Threshold.{Threshold}
 use Rattle.numbers.specs.declared.threshold.Fitted.{Fitted}
 use Rattle.numbers.specs.declared.threshold.Fitted.the-variants.{Fits, Outside}
@@ -64,6 +64,21 @@ product p v r = rounded p (natAbs (v .mantissa) * r .over) (r .under) (v .expone
 unfoldable pub scaledBy : Value → Ratio → Value
 scaledBy v r =
     cond (isFive v && isUsable r) (record { mantissa = signed (v .mantissa) (product five v r .mantissa); exponent = product five v r .exponent }) v
+
+-- the end stops, "1.0000E-20 and 9.9999E+20"
+abbrev pub leastStop : Threshold
+leastStop = record { mantissa = 10000; exponent = negsuc 19 }
+
+abbrev pub mostStop : Threshold
+mostStop = record { mantissa = 99999; exponent = pos 20 }
+
+-- W-202: "held within 1.0000E-20 and 9.9999E+20": what is less than the one is that one, what is more than the other is the other
+unfoldable pub heldWithin : Threshold → Threshold
+heldWithin t = cond (less (asValue t) (asValue leastStop)) leastStop (cond (less (asValue mostStop) (asValue t)) mostStop t)
+
+-- a threshold times r, rounded once and then held within the end stops; what is no threshold, or no ratio, stays as it is
+unfoldable pub multipliedBy : Threshold → Ratio → Threshold
+multipliedBy t r = cond (withinStops t && isUsable r) (heldWithin (product five (asValue t) r)) t
 
 -- t's mantissa times ten to its exponent, over the denominator that t and u have in common
 abbrev pub levelled : Threshold → Threshold → ℕ

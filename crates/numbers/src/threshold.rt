@@ -1,8 +1,10 @@
 // Thresholds: d.dddd times a power of ten, within their end stops.
 ghost use mathlib.Core.Path.{_≡_};
-ghost use Rattle.numbers.specs.Numbers.{withinStops};
-ghost use Rattle.numbers.specs.Rounding.{fittedTo};
+ghost use Rattle.numbers.specs.Numbers.{five, OfDigits, withinStops};
+ghost use Rattle.numbers.specs.Rounding.{fittedTo, heldWithin, multipliedBy};
 use crate::rounding::rounded;
+use crate::value::Ratio;
+use crate::value::Value;
 
 // Its five digits without the point, and its power of ten.
 pub struct Threshold {
@@ -52,5 +54,39 @@ impl Threshold {
             }
         }
         Fitted::Outside
+    }
+    // Beyond an end stop, that stop.
+    fn held(self) -> Threshold
+        requires { ⌜ OfDigits five (self .mantissa) ⌝ }
+        ensures { λ r. ⌜ r ≡ heldWithin self ⌝ }
+    {
+        let e = self.exponent;
+        if e < Threshold::LEAST_EXPONENT {
+            return Threshold {
+                mantissa: Threshold::LEAST_DIGITS,
+                exponent: Threshold::LEAST_EXPONENT,
+            };
+        }
+        if Threshold::MOST_EXPONENT < e {
+            return Threshold {
+                mantissa: Threshold::MOST_DIGITS,
+                exponent: Threshold::MOST_EXPONENT,
+            };
+        }
+        self
+    }
+
+    // The threshold times the ratio, rounded once as a value is, and held within the end stops.
+    pub(crate) fn multiplied(self, ratio: Ratio) -> Threshold
+        ensures { λ r. ⌜ r ≡ multipliedBy self ratio ⌝ }
+    {
+        if self.is_within() & ratio.is_usable() {
+            let v = Value {
+                mantissa: self.mantissa as i32,
+                exponent: self.exponent,
+            };
+            return v.product(ratio).held();
+        }
+        self
     }
 }

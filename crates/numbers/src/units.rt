@@ -1,6 +1,7 @@
-// The units of pressure and their exact factors from hPa.
+// The units of pressure, their exact factors from hPa, and thresholds in another unit.
 ghost use mathlib.Core.Path.{_≡_};
-ghost use Rattle.numbers.specs.Units.{fromHpa};
+ghost use Rattle.numbers.specs.Units.{fromHpa, factorBetween, reExpressed};
+use crate::threshold::Threshold;
 use crate::value::Ratio;
 
 // The units that are not hPa by another name.
@@ -33,4 +34,25 @@ pub fn from_hpa(unit: u32) -> Ratio
         };
     }
     Ratio { over: 1, under: 1 }
+}
+
+// The factor from one unit to another.
+fn factor_between(old: u32, new: u32) -> Ratio
+    ensures { λ r. ⌜ r ≡ factorBetween old new ⌝ }
+{
+    let from = from_hpa(old);
+    let to = from_hpa(new);
+    Ratio {
+        over: to.over * from.under,
+        under: to.under * from.over,
+    }
+}
+
+impl Threshold {
+    // The threshold of the old unit as one of the new: one rounding from the exact product, never through hPa.
+    pub fn re_expressed(self, old: u32, new: u32) -> Threshold
+        ensures { λ r. ⌜ r ≡ reExpressed old new self ⌝ }
+    {
+        self.multiplied(factor_between(old, new))
+    }
 }

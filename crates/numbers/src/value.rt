@@ -107,7 +107,7 @@ impl Value {
     }
 
     // The magnitude of the value times the ratio, rounded once.
-    fn product(self, ratio: Ratio) -> Threshold
+    pub(crate) fn product(self, ratio: Ratio) -> Threshold
         requires { ⌜ isFive self && isUsable ratio ≡ true ⌝ }
         ensures { λ r. ⌜ r ≡ product five self ratio ⌝ }
     {

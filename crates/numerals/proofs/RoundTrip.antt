@@ -19,7 +19,7 @@ use Rattle.numbers.specs.Numbers.{five, OfDigits, withinStops}
 use Rattle.numbers.specs.Rounding.{fittedTo}
 use Rattle.numbers.specs.declared.threshold.Threshold.{Threshold}
 use Rattle.numbers.specs.declared.threshold.Fitted.the-variants.{Fits}
-use Rattle.numbers.proofs.Nearest.{round-exact}
+use Rattle.numbers.proofs.Exact.{round-same}
 use Rattle.numbers.proofs.Stops.{stops-digits, stops-near, fitted-within}
 use Rattle.numerals.specs.Writing.{signByte, scientific, thresholdText}
 use Rattle.numerals.specs.Runs.{isDigit, lead, rest, headIs, value}
@@ -189,7 +189,7 @@ five-value m h =
 fits-round : (t : Threshold) → withinStops t ≡ true → fittedTo (t .mantissa) (t .exponent -ℤ pos 4) ≡ Fits t
 fits-round t h =
     let m = stops-digits t h in
-    let same = round-exact five (t .mantissa) m (t .exponent) in
+    let same = round-same five (omega arith) t m in
     sym (fitted-within (t .mantissa) (t .exponent -ℤ pos 4) (λ z. omega (arith, m)) (ap withinStops same ∙ h)) ∙ ap Fits same
 
 -- for every threshold within the end stops

@@ -87,6 +87,11 @@ pub sheet-counts : (model : Model) → length (sheet model) ≡ byUnit 17 14 mod
 unfolding sheet switchingEntry storedEntry
 sheet-counts = every-model (λ m. length (sheet m) ≡ byUnit 17 14 m) (refl, (refl, (refl, tt)))
 
+-- "UNI stands first in the sheet for a reason now": on every model, so no line of a threshold stands before it
+pub unit-first : (model : Model) → sheet model ≡ Uni ∷ drop 1 (sheet model)
+unfolding sheet switchingEntry storedEntry
+unit-first = every-model (λ m. sheet m ≡ Uni ∷ drop 1 (sheet m)) (refl, (refl, (refl, tt)))
+
 -- a line by its place, found by a walk over what is held
 module _ (p : Setting → Bool) (xs : List Setting) (j left : ℕ) (d : Setting) (h : j < length xs) where
   pub line-here : p (getD xs j d) && eqb left 0 ≡ true → getD (those p (drop j xs)) left d ≡ getD xs j d

@@ -12,14 +12,15 @@ use lib.Seq.{getD-set-same, getD-set-other}
 use lib.Dec.{ltb, eqb}
 use Rattle.ground.specs.Members.{every}
 use Rattle.numbers.specs.declared.threshold.Threshold.{Threshold}
+use Rattle.numbers.proofs.UnitFactors.{re-expressed-stops}
 use Rattle.settings.specs.Models.{channels}
-use Rattle.settings.specs.Rows.{plain, pairRow, firstNumber, secondNumber, listed, mixed, row}
+use Rattle.settings.specs.Rows.{plain, pairRow, firstNumber, secondNumber, listed, mixed, row, rowIn}
 use Rattle.settings.specs.Table.{channelChoice, factor, TableRow, switchings, switchingEntry, storedEntry, settingEntry, entry, defaults, stored}
 use Rattle.settings.specs.Mnemonics.{setting}
 use Rattle.settings.specs.Limits.{sameCell, fits, cellsFit, rowFits, rowWithin, within, SettingsShaped}
 use Rattle.settings.specs.declared.model.Model.{Model}
 use Rattle.settings.specs.declared.mnemonic.Setting.{Setting}
-use Rattle.settings.specs.declared.mnemonic.Setting.the-variants.{Uni, Cal, Stored}
+use Rattle.settings.specs.declared.mnemonic.Setting.the-variants.{Uni, Cal, Sp, Stored}
 use Rattle.settings.specs.declared.mnemonic.Replying.the-variants.{Cf}
 use Rattle.settings.specs.declared.mnemonic.Mnemonic.the-variants.{OfReplying}
 use Rattle.settings.specs.declared.table.Kind.{Kind}
@@ -29,7 +30,7 @@ use Rattle.settings.specs.declared.Settings.{Settings}
 use Rattle.settings.proofs.Every.{tested, channels-few}
 use Rattle.settings.proofs.Tabled.{switching-there, numeric, Numbers, uni-numbers, uni-count, cal-numbers, stored-numbers, few, count-kinds}
 use Rattle.settings.proofs.Places.{same-cell, number-plain, cell, kindAt, placed, row-places, places-row}
-use Rattle.settings.proofs.Storing.{Holding, canon, mixed-is, stored-row, stored-others, factor-row, factor-others}
+use Rattle.settings.proofs.Storing.{Holding, canon, mixed-is, stored-row, stored-others, unit-others, factor-row, factor-others}
 use Rattle.settings.proofs.Storing.Holding.{uni, cal, sp, kept}
 use Rattle.settings.proofs.Sheets.{same-or-apart, within-rows, rows-within}
 
@@ -71,14 +72,38 @@ fitting-canon model r (kept k h) f = sym (two-numbers (settingEntry (Stored k) .
 
 -- ---- limits are kept
 
--- a change of one row, within its limits
-changed-within : (model : Model) (b c : Settings) {x : Setting} → Holding x → rowWithin model c x ≡ true
-    → ((y : Setting) → Holding y → y ≢ x → row c y ≡ row b y) → within model b ≡ true → within model c ≡ true
-changed-within model b c {x} h own others w =
+-- a change of one row, within its limits, where the others are too
+changed-within : (model : Model) (c : Settings) {x : Setting} → Holding x → rowWithin model c x ≡ true
+    → ((y : Setting) → Holding y → y ≢ x → rowWithin model c y ≡ true) → within model c ≡ true
+changed-within model c h own others =
     rows-within model c (λ y g.
-    ⊎-elim (λ (e : y ≡ x). subst (λ z. rowWithin model c z ≡ true) (sym e) own)
-    (λ (d : y ≢ x). subst (λ u. rowFits (settingEntry y .fields model) u (settingEntry y .default model) ≡ true) (sym (others y g d)) (within-rows model b w y g))
-    (same-or-apart h g))
+    ⊎-elim (λ (e : y ≡ _). subst (λ z. rowWithin model c z ≡ true) (sym e) own) (others y g) (same-or-apart h g))
+
+-- a row that stays is within its limits
+row-stays : (model : Model) (b c : Settings) → within model b ≡ true → (y : Setting) → Holding y → row c y ≡ row b y → rowWithin model c y ≡ true
+row-stays model b c w y g e =
+    subst (λ u. rowFits (settingEntry y .fields model) u (settingEntry y .default model) ≡ true) (sym e) (within-rows model b w y g)
+
+-- and so is one in another unit: only thresholds follow it, and they keep to their end stops
+in-unit-within : (model : Model) (b : Settings) (unit : ℕ) → within model b ≡ true → {y : Setting} → Holding y
+    → rowFits (settingEntry y .fields model) (rowIn unit b y) (settingEntry y .default model) ≡ true
+in-unit-within model b unit w uni = within-rows model b w Uni uni
+in-unit-within model b unit w cal = within-rows model b w Cal cal
+in-unit-within model b unit w (kept k h) = within-rows model b w (Stored k) (kept k h)
+in-unit-within model b unit w (sp k h) =
+    subst (Beside (rowIn unit b (Sp k))) (sym (switching-there k h)) (places-row (switchings k .fields model) (rowIn unit b (Sp k)) (switchings k .default model) at)
+  where
+    Beside : Row → TableRow → Type 0
+    Beside r e = rowFits (e .fields model) r (e .default model) ≡ true
+
+    own : (i : ℕ) → i < 3 → placed (switchings k .fields model) (row b (Sp k)) (switchings k .default model) i ≡ true
+    own = row-places (switchings k .fields model) (row b (Sp k)) (switchings k .default model) (subst (Beside (row b (Sp k))) (switching-there k h) (within-rows model b w (Sp k) (sp k h)))
+
+    at : (i : ℕ) → i < 3 → placed (switchings k .fields model) (rowIn unit b (Sp k)) (switchings k .default model) i ≡ true
+    at zero l = own 0 l
+    at (suc zero) l = re-expressed-stops (b .unit) unit (row b (Sp k) .second) (own 1 l)
+    at (suc (suc zero)) l = re-expressed-stops (b .unit) unit (row b (Sp k) .third) (own 2 l)
+    at (suc (suc (suc i))) l = absurd (omega arith)
 
 mixed-cell : (n i : ℕ) (r q : Row) → i < 3 → cell (mixed n r q) i ≡ cond (ltb i n) (cell r i) (cell q i)
 mixed-cell n zero r q h = sym (ap (λ (u : Row). u .first) (mixed-is n r q))
@@ -101,8 +126,14 @@ mixed-fits f r q d g w =
 -- an accepted line keeps the limits
 pub stored-within : (model : Model) (b : Settings) (r : Row) {x : Setting} → SettingsShaped b → Holding x → within model b ≡ true → Fitting (settingEntry x .fields model) r
     → within model (stored model b (setting x) r) ≡ true
-stored-within model b r {x} sh h w f = changed-within model b (stored model b (setting x) r) h own (λ y. stored-others model b r h) w
+stored-within model b r {x} sh h w f = changed-within model (stored model b (setting x) r) h own others
   where
+    others : (y : Setting) → Holding y → y ≢ x → rowWithin model (stored model b (setting x) r) y ≡ true
+    others y g d =
+        ⊎-elim (λ (e : x ≡ Uni). subst (λ z. rowWithin model (stored model b (setting z) r) y ≡ true) (sym e)
+        (rw (unit-others model b r y (λ q. d (q ∙ sym e))) (in-unit-within model b (stored model b (setting Uni) r .unit) w g)))
+        (λ (u : x ≢ Uni). row-stays model b (stored model b (setting x) r) w y g (stored-others model b r h g u d)) (same-or-apart uni h)
+
     own : rowWithin model (stored model b (setting x) r) x ≡ true
     own =
         rw (stored-row model b r sh h (fitting-canon model r h f), count-kinds (settingEntry x .fields model) (few model (setting x)))
@@ -136,7 +167,9 @@ factor-kind model (suc (suc k)) h = absurd (omega arith)
 -- and so does a factor for a channel that the model has
 pub factor-within : (model : Model) (b : Settings) (r : Row) (k : ℕ) → SettingsShaped b → k < channels model → within model b ≡ true
     → Fitting (entry (OfReplying (Cf k)) .fields model) r → within model (stored model b (OfReplying (Cf k)) r) ≡ true
-factor-within model b r k sh h w f = changed-within model b (stored model b (OfReplying (Cf k)) r) cal own (λ y. factor-others model b r k) w
+factor-within model b r k sh h w f =
+    let c = stored model b (OfReplying (Cf k)) r in
+    changed-within model c cal own (λ y g d. row-stays model b c w y g (factor-others model b r k g d))
   where
     own : rowWithin model (stored model b (OfReplying (Cf k)) r) Cal ≡ true
     own =

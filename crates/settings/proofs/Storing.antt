@@ -1,17 +1,19 @@
 -- What a line stores is what is read back, the other rows stay, and the rows say all.
 use Prim.Native.Nat.{ℕ, zero, suc, _≤_, _<_}
-use mathlib.Core.Path.{_≡_, refl, sym, ap, _∙_}
+use mathlib.Core.Path.{_≡_, refl, sym, ap, _∙_, subst}
 use mathlib.Core.List.{List}
 use mathlib.Core.Bool.{cond}
 use mathlib.Core.Logic.{_≢_}
 use native.Mathlib.Omega.{arith}
 use borrow.Author.Tests.{lt-ltb}
-use lib.ListN.{length, getD, set, take, length-set}
+use lib.ListN.{length, getD, set, take, length-set, length-map, List·getD-map}
 use lib.Dec.{ltb}
 use lib.Seq.{getD-set-same, getD-set-other, ext-getD}
 use Rattle.ground.proofs.Ranges.{upto-three}
+use Rattle.numbers.specs.Rounding.{multipliedBy}
 use Rattle.numbers.specs.declared.threshold.Threshold.{Threshold}
-use Rattle.settings.specs.Rows.{plain, pairRow, cellsOf, firstNumber, secondNumber, pairOf, switchingOf, listed, mixed, noSwitching, noPair, rowOfPair, row, withRow, withFactors}
+use Rattle.numbers.proofs.UnitFactors.{re-expressed-same}
+use Rattle.settings.specs.Rows.{plain, pairRow, cellsOf, firstNumber, secondNumber, pairOf, switchingOf, listed, mixed, noSwitching, noPair, rowOfPair, row, switchingIn, rowIn, withUnit, withRow, withFactors}
 use Rattle.settings.specs.Table.{fieldCount, stored}
 use Rattle.settings.specs.Mnemonics.{setting}
 use Rattle.settings.specs.Limits.{SettingsShaped}
@@ -23,6 +25,7 @@ use Rattle.settings.specs.declared.mnemonic.Mnemonic.{Mnemonic}
 use Rattle.settings.specs.declared.mnemonic.Mnemonic.the-variants.{OfReplying, Com, Sav}
 use Rattle.settings.specs.declared.Settings.{Settings}
 use Rattle.settings.specs.declared.rows.Row.{Row}
+use Rattle.settings.proofs.Tabled.{uni-count}
 
 -- the settings that the arrays hold
 pub data Holding : Setting → Type 0 where
@@ -95,6 +98,30 @@ mixed-canon n r q x p e = by x p e
 pub mixed-front : (n : ℕ) (r q : Row) → n ≤ 3 → take n (listed (mixed n r q)) ≡ take n (listed r)
 mixed-front n r q = upto-three (λ m. take m (listed (mixed m r q)) ≡ take m (listed r)) refl refl refl refl n
 
+-- ---- in another unit
+
+module _ (b : Settings) where
+  -- a function by its place: what stands for a missing one has no threshold to follow
+  pub function-in : (unit k : ℕ) → getD (withUnit b unit .switching) k noSwitching ≡ switchingIn (b .unit) unit (getD (b .switching) k noSwitching)
+  unfolding multipliedBy
+  function-in unit k = List·getD-map (switchingIn (b .unit) unit) (b .switching) k noSwitching
+
+  -- each row is what it was, in the new unit
+  in-unit : (unit : ℕ) (y : Setting) → y ≢ Uni → row (withUnit b unit) y ≡ rowIn unit b y
+  in-unit unit Uni d = absurd (d refl)
+  in-unit unit Cal d = refl
+  in-unit unit (Sp k) d = ap cellsOf (function-in unit k)
+  in-unit unit (Stored k) d = refl
+
+  -- and in the same unit as it was
+  pub in-own-unit : (y : Setting) → rowIn (b .unit) b y ≡ row b y
+  in-own-unit Uni = refl
+  in-own-unit Cal = refl
+  in-own-unit (Sp k) =
+      let w = getD (b .switching) k noSwitching in
+      rw (re-expressed-same (b .unit) (w .lower), re-expressed-same (b .unit) (w .upper))
+  in-own-unit (Stored k) = refl
+
 -- ---- storing
 
 module _ (b : Settings) (fs : List ℕ) where
@@ -106,23 +133,21 @@ module _ (b : Settings) (fs : List ℕ) where
   others-factors (kept k h) d = refl
 
 module _ (b : Settings) (r : Row) where
-  others-stay : {x y : Setting} → Holding x → Holding y → y ≢ x → row (withRow b x r) y ≡ row b y
-  others-stay uni uni d = absurd (d refl)
-  others-stay uni cal d = refl
-  others-stay uni (sp k h) d = refl
-  others-stay uni (kept k h) d = refl
-  others-stay cal y d = others-factors b _ y d
-  others-stay (sp j g) uni d = refl
-  others-stay (sp j g) cal d = refl
-  others-stay (sp j g) (sp k h) d = ap cellsOf (getD-set-other (b .switching) j k (switchingOf r) noSwitching (λ e. d (ap Sp e)))
-  others-stay (sp j g) (kept k h) d = refl
-  others-stay (kept j g) uni d = refl
-  others-stay (kept j g) cal d = refl
-  others-stay (kept j g) (sp k h) d = refl
-  others-stay (kept j g) (kept k h) d = ap rowOfPair (getD-set-other (b .stored) j k (pairOf r) noPair (λ e. d (ap Stored e)))
+  -- nor does another setting, but the unit
+  others-stay : {x y : Setting} → Holding x → Holding y → x ≢ Uni → y ≢ x → row (withRow b x r) y ≡ row b y
+  others-stay uni y u d = absurd (u refl)
+  others-stay cal y u d = others-factors b _ y d
+  others-stay (sp j g) uni u d = refl
+  others-stay (sp j g) cal u d = refl
+  others-stay (sp j g) (sp k h) u d = ap cellsOf (getD-set-other (b .switching) j k (switchingOf r) noSwitching (λ e. d (ap Sp e)))
+  others-stay (sp j g) (kept k h) u d = refl
+  others-stay (kept j g) uni u d = refl
+  others-stay (kept j g) cal u d = refl
+  others-stay (kept j g) (sp k h) u d = refl
+  others-stay (kept j g) (kept k h) u d = ap rowOfPair (getD-set-other (b .stored) j k (pairOf r) noPair (λ e. d (ap Stored e)))
 
   row-shaped : (x : Setting) → SettingsShaped b → SettingsShaped (withRow b x r)
-  row-shaped Uni sh = record { factors = sh .factors; switching = sh .switching; stored = sh .stored }
+  row-shaped Uni sh = record { factors = sh .factors; switching = simp length-map (sh .switching); stored = sh .stored }
   row-shaped Cal sh = record { factors = refl; switching = sh .switching; stored = sh .stored }
   row-shaped (Sp k) sh = record { factors = sh .factors; switching = simp length-set (sh .switching); stored = sh .stored }
   row-shaped (Stored k) sh = record { factors = sh .factors; switching = sh .switching; stored = simp length-set (sh .stored) }
@@ -132,9 +157,16 @@ module _ (model : Model) (b : Settings) (r : Row) where
   pub stored-row : SettingsShaped b → {x : Setting} → Holding x → canon x r ≡ r → row (stored model b (setting x) r) x ≡ mixed (fieldCount model x) r (row b x)
   stored-row sh {x} h e = row-back (mixed (fieldCount model x) r (row b x)) sh h ∙ mixed-canon (fieldCount model x) r (row b x) x e (row-canon b x)
 
-  -- and so do the cells of the other settings
-  pub stored-others : {x y : Setting} → Holding x → Holding y → y ≢ x → row (stored model b (setting x) r) y ≡ row b y
+  -- and so do the cells of the other settings, where it is not the unit that is stored
+  pub stored-others : {x y : Setting} → Holding x → Holding y → x ≢ Uni → y ≢ x → row (stored model b (setting x) r) y ≡ row b y
   stored-others {x} = others-stay b (mixed (fieldCount model x) r (row b x))
+
+  -- UNI takes the thresholds with it
+  pub unit-stored : stored model b (setting Uni) r ≡ withUnit b (firstNumber r)
+  unit-stored = rw (uni-count model)
+
+  pub unit-others : (y : Setting) → y ≢ Uni → row (stored model b (setting Uni) r) y ≡ rowIn (stored model b (setting Uni) r .unit) b y
+  unit-others y d = subst (λ (s : Settings). row s y ≡ rowIn (s .unit) b y) (sym unit-stored) (in-unit b (firstNumber r) y d)
 
   pub stored-shaped : (m : Mnemonic) → SettingsShaped b → SettingsShaped (stored model b m r)
   stored-shaped (OfReplying (OfSetting x)) sh = row-shaped b (mixed (fieldCount model x) r (row b x)) x sh

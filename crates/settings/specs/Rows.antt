@@ -1,8 +1,9 @@
--- The settings by their rows of three cells, the same three for every model (01, "Settings").
+-- The settings by their rows of three cells, the same three for every model (01, "Settings"); thresholds in another unit (02, W-202).
 use Prim.Native.Nat.{ℕ}
-use mathlib.Core.List.{List, [], _∷_, _++_}
+use mathlib.Core.List.{List, [], _∷_, _++_, map}
 use lib.ListN.{getD, set, take, drop}
 use lib.IntN.{pos}
+use Rattle.numbers.specs.Units.{reExpressed}
 use Rattle.numbers.specs.declared.threshold.Threshold.{Threshold}
 use Rattle.settings.specs.declared.mnemonic.Setting.{Setting}
 use Rattle.settings.specs.declared.mnemonic.Setting.the-variants.{Uni, Cal, Sp, Stored}
@@ -65,7 +66,21 @@ row s Cal = pairRow (getD (s .factors) 0 0) (getD (s .factors) 1 0)
 row s (Sp k) = cellsOf (getD (s .switching) k noSwitching)
 row s (Stored k) = rowOfPair (getD (s .stored) k noPair)
 
--- the settings with one part replaced
+-- W-202: "re-expresses all eight": a switching function in another unit, whatever its assignment
+abbrev pub switchingIn : ℕ → ℕ → Switching → Switching
+switchingIn old new w = record { assignment = w .assignment; lower = reExpressed old new (w .lower); upper = reExpressed old new (w .upper) }
+
+-- the three cells of a setting as they are in a unit: "thresholds are in the current unit", and nothing else is
+abbrev pub rowIn : ℕ → Settings → Setting → Row
+rowIn unit s Uni = row s Uni
+rowIn unit s Cal = row s Cal
+rowIn unit s (Sp k) = cellsOf (switchingIn (s .unit) unit (getD (s .switching) k noSwitching))
+rowIn unit s (Stored k) = row s (Stored k)
+
+-- the settings with one part replaced; with another unit, "thresholds follow the unit"
+abbrev pub withUnit : Settings → ℕ → Settings
+withUnit s v = record { unit = v; factors = s .factors; switching = map (switchingIn (s .unit) v) (s .switching); stored = s .stored }
+
 abbrev pub withFactors : Settings → List ℕ → Settings
 withFactors s v = record { unit = s .unit; factors = v; switching = s .switching; stored = s .stored }
 
@@ -77,7 +92,7 @@ withStored s v = record { unit = s .unit; factors = s .factors; switching = s .s
 
 -- the settings with other cells for a setting
 abbrev pub withRow : Settings → Setting → Row → Settings
-withRow s Uni r = record { unit = firstNumber r; factors = s .factors; switching = s .switching; stored = s .stored }
+withRow s Uni r = withUnit s (firstNumber r)
 withRow s Cal r = withFactors s (firstNumber r ∷ secondNumber r ∷ [])
 withRow s (Sp k) r = withSwitching s (set (s .switching) k (switchingOf r))
 withRow s (Stored k) r = withStored s (set (s .stored) k (pairOf r))

@@ -1,8 +1,9 @@
 // The settings as rows of three cells, one row for each line of the sheet; storing what a line writes.
 ghost use mathlib.Core.Path.{_≡_};
 ghost use mathlib.Core.Bool.{cond};
+ghost use mathlib.Core.List.{map};
 ghost use lib.ListN.{getD, set};
-ghost use Rattle.settings.specs.Rows.{plain, pairRow, cellsOf, firstNumber, mixed, noSwitching, noPair, rowOfPair, row, withFactors, withRow};
+ghost use Rattle.settings.specs.Rows.{plain, pairRow, cellsOf, firstNumber, mixed, noSwitching, noPair, rowOfPair, row, switchingIn, withFactors, withRow};
 ghost use Rattle.settings.specs.Table.{stored};
 use crate::Pair;
 use crate::Settings;
@@ -86,6 +87,33 @@ fn mixed(n: usize, a: Row, b: Row) -> Row
     }
 }
 
+impl Switching {
+    // The function with its thresholds in another unit.
+    fn in_unit(self, old: u32, new: u32) -> Switching
+        ensures { λ r. ⌜ r ≡ switchingIn old new self ⌝ }
+    {
+        let lower = self.lower;
+        let upper = self.upper;
+        Switching {
+            assignment: self.assignment,
+            lower: lower.re_expressed(old, new),
+            upper: upper.re_expressed(old, new),
+        }
+    }
+}
+
+// All four of them.
+fn all_in_unit(w: [Switching; 4], old: u32, new: u32) -> [Switching; 4]
+    ensures { λ r. ⌜ r ≡ map (switchingIn old new) w ⌝ }
+{
+    [
+        w[0].in_unit(old, new),
+        w[1].in_unit(old, new),
+        w[2].in_unit(old, new),
+        w[3].in_unit(old, new),
+    ]
+}
+
 impl Settings {
     // The cells of a setting.
     pub fn row(self, x: Setting) -> Row
@@ -115,7 +143,10 @@ impl Settings {
         let mut s = self;
         match x {
             Setting::Uni => {
+                let w = self.switching;
+                let follow = all_in_unit(w, self.unit, a.mantissa);
                 s.unit = a.mantissa;
+                s.switching = follow;
             }
             Setting::Cal => {
                 s.factors = [a.mantissa, b.mantissa];

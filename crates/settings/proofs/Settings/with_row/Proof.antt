@@ -17,6 +17,9 @@ length-mapped X Y f l n e = sym (length-map l f) ∙ e
 enum-told : tie.Need-enum-told
 enum-told c = search needs
 
+all-in-unit-requires : tie.Need-all-in-unit-requires
+all-in-unit-requires c κs = search needs
+
 enum-told-2 : tie.Need-enum-told-2
 enum-told-2 c = search needs
 
@@ -26,8 +29,8 @@ enum-known-x c = search needs
 cast-i : tie.Need-cast-i
 cast-i c = search needs
 
-mul-t14 : tie.Need-mul-t14
-mul-t14 c = search needs
+mul-t16 : tie.Need-mul-t16
+mul-t16 c = search needs
 
 element-set-from-s : tie.Need-element-set-from-s
 element-set-from-s c = search needs
@@ -38,14 +41,14 @@ enum-known-x-2 c = search needs
 cast-i-2 : tie.Need-cast-i-2
 cast-i-2 c = search needs
 
-mul-t19 : tie.Need-mul-t19
-mul-t19 c = search needs
+mul-t21 : tie.Need-mul-t21
+mul-t21 c = search needs
 
 element-set-from-s-2 : tie.Need-element-set-from-s-2
 element-set-from-s-2 c = search needs
 
 returns : tie.Need-returns
-returns c = rw (c .enum-told .given .1)
+returns c = rw (c .all-in-unit .ensures, c .before .before .enum-told .given .1)
 
 returns-2 : tie.Need-returns-2
 returns-2 c = rw (c .before .enum-told2 .given .1)
@@ -75,14 +78,15 @@ with-row-spec =
     tie.close
     (tie.spec
     enum-told
+    all-in-unit-requires
     enum-told-2
     enum-known-x
     cast-i
-    mul-t14
+    mul-t16
     element-set-from-s
     enum-known-x-2
     cast-i-2
-    mul-t19
+    mul-t21
     element-set-from-s-2
     returns
     returns-2

@@ -1,6 +1,6 @@
 -- Demand 3: a sheet of settings is read from one box and sent to another of the model, over bytes. Proved over a list of settings, and so
 -- over the sheet of any model.
-use Prim.Native.Nat.{ℕ, _+_}
+use Prim.Native.Nat.{ℕ, suc, _+_}
 use mathlib.Core.Path.{_≡_, refl, sym, ap, ap₂, subst, _∙_}
 use mathlib.Core.List.{List, [], _∷_, _++_, map, flatMap, append-assoc, append-nil}
 use mathlib.Core.Bool.{true, and-eq-true-iff}
@@ -11,22 +11,23 @@ use lib.ListN.{length, take, drop}
 use lib.Seq.{drop-append-seam, drop-drop}
 use Rattle.ground.specs.Members.{Each}
 use Rattle.ground.proofs.Cases.{in-range}
-use Rattle.ground.proofs.Members.{each-map, each-both, each-take}
+use Rattle.ground.proofs.Members.{each-map, each-all, each-both, each-take}
 use Rattle.ground.proofs.Sequences.{map-take}
 use Rattle.text.specs.Spans.{until}
 use Rattle.text.specs.Control.{crLf, lf, cr}
-use Rattle.settings.specs.Rows.{rowOf}
+use Rattle.settings.specs.Rows.{firstNumber, rowOf, row, rowIn}
 use Rattle.settings.specs.Table.{cells}
 use Rattle.settings.specs.Mnemonics.{settingsHeld, sheet, setting, name}
 use Rattle.settings.specs.Limits.{within}
 use Rattle.settings.specs.declared.model.Model.{Model}
 use Rattle.settings.specs.declared.mnemonic.Setting.{Setting}
+use Rattle.settings.specs.declared.mnemonic.Setting.the-variants.{Uni}
 use Rattle.settings.specs.declared.mnemonic.Mnemonic.{Mnemonic}
 use Rattle.settings.specs.declared.mnemonic.Replying.the-variants.{OfSetting}
 use Rattle.settings.specs.declared.rows.Row.{Row}
 use Rattle.settings.specs.declared.Settings.{Settings}
 use Rattle.settings.proofs.Storing.{Holding}
-use Rattle.settings.proofs.Sheets.{held-holding, lacking-default, sheet-each}
+use Rattle.settings.proofs.Sheets.{held-holding, unit-first, lacking-default, sheet-each}
 use Rattle.settings.proofs.Answerable.{first-there}
 use Rattle.lines.specs.Judging.{judged, effect}
 use Rattle.lines.specs.Replies.{settingText}
@@ -49,7 +50,7 @@ use Rattle.tpg.specs.declared.State.{State}
 use Rattle.tpg.proofs.HostRun.{after-append, said-append}
 use Rattle.tpg.proofs.StateLimits.{heard-model, after-sound, after-model}
 use Rattle.demands.specs.Wire.{ackLine, End, ended, anew, enquiries, asOften}
-use Rattle.demands.specs.Sheets.{boxModel, boxSettings, Boxes, questions, sheetAsked, sheetReplies, firstLine, behindLine, copyLines, copyOf, linesSent, acks, SheetRead, SheetCopied, SheetCut, SheetsDecide, LackingDefault, LackingStays}
+use Rattle.demands.specs.Sheets.{boxModel, boxSettings, Boxes, questions, sheetAsked, sheetReplies, firstLine, behindLine, copyLines, copyOf, linesSent, acks, Same, Own, SheetRead, SheetCopied, SheetCut, SheetsDecide, LackingDefault, LackingStays}
 use Rattle.demands.proofs.Ending.{Line}
 use Rattle.demands.proofs.Typing.{line-judged, line-enquired, line-left, anew-line, anew-instrument, anew-said, anew-after}
 use Rattle.demands.proofs.Spelling.{Character, Typeable, typeable-inner, typeable-line, Short, names-short, name-typeable, setting-characters, line-typeable, name-judged}
@@ -272,6 +273,22 @@ sheet-cut a b both e f n =
       rw is (cut-named model (boxSettings a) (boxSettings b) sa sb wa (own a b both f) n),
       rw is (cut-others model (boxSettings a) (boxSettings b) sa sb wa (own a b both f) n),
     )
+
+-- cut before the first line all is as it was
+pub cut-none : (a b : State) → Boxes a b → (e f : End) → Each (Same (after b (linesSent f (take 0 (copyOf said e a)))) b) (sheet (boxModel a))
+cut-none a b both e f = each-all _ (λ x. ap (λ (s : Settings). row s x) (copied a b both f [] tt)) (sheet (boxModel a))
+
+-- W-202: "cut after the UNI line and before an SP line, that function's thresholds are the second box's own, re-expressed": to the first's unit
+pub cut-unit : (a b : State) → Boxes a b → (e f : End) (n : ℕ)
+    → let c = after b (linesSent f (take (suc n) (copyOf said e a))) in
+    Each (λ (x : Setting). row (boxSettings c) x ≡ rowIn (boxSettings a .unit) (boxSettings b) x) (drop (suc n) (sheet (boxModel a)))
+cut-unit a b both e f n =
+    let model = boxModel a in
+    let c = after b (linesSent f (take (suc n) (copyOf said e a))) in
+    let cut = sheet-cut a b both e f (suc n) in
+    let named : Each (Same c a) (take (suc n) (Uni ∷ drop 1 (sheet model))) = subst (λ (xs : List Setting). Each (Same c a) (take (suc n) xs)) (unit-first model) (cut .1) in
+    let unit : boxSettings c .unit ≡ boxSettings a .unit = ap firstNumber (named .0) in
+    each-map (Own c b) _ (λ x own. own ∙ ap (λ u. rowIn u (boxSettings b) x) unit) (drop (suc n) (sheet model)) (cut .2)
 
 -- ---- a sheet tells the settings
 

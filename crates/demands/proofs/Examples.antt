@@ -1,5 +1,5 @@
 -- The starred examples of 01, "Lines on either side", as one statement over a list of them; 01's example, its other examples and its wrong readings
--- as another; and a 262 (02, W-201). All are worked out from the definitions, through the calls on a fresh box.
+-- as another; a 262 (02, W-201), and thresholds that follow the unit (02, W-202). All are worked out from the definitions, through the calls on a fresh box.
 use Prim.Native.Nat.{ℕ}
 use Prim.Native.String.{String}
 use mathlib.Core.Path.{_≡_, refl}
@@ -12,7 +12,7 @@ use Rattle.text.specs.Digits.{bare}
 use Rattle.text.specs.Spans.{until}
 use Rattle.text.specs.Control.{crLf, enq, lf}
 use Rattle.numbers.specs.Numbers.{less, isBelow, isAbove}
-use Rattle.numbers.specs.Rounding.{climbWithin, digits, power, rounded, fittedTo, scaledBy}
+use Rattle.numbers.specs.Rounding.{climbWithin, digits, power, rounded, fittedTo, scaledBy, heldWithin, multipliedBy}
 use Rattle.numerals.specs.Runs.{lead, rest, headIs, value}
 use Rattle.numerals.specs.Whole.{numberOf, behindPoint, factorOf}
 use Rattle.numerals.specs.Exponential.{afterPlus, afterSign, powerOf, composed, fraction, afterFraction, thresholdOf}
@@ -147,7 +147,7 @@ starred =
     ∷ []
 
 pub starred-hold : Hold starred
-unfolding bare climbWithin digits power rounded fittedTo scaledBy lead rest headIs value numberOf behindPoint factorOf afterPlus afterSign powerOf composed fraction afterFraction thresholdOf scientific withinLimits every known same found sheet recognised answers switchingEntry storedEntry cellsFit within fields limited fieldsRead formed valued withFields judged settingText grown kindOf concluded isErr asked byKind heard lineWithin portWithin measured written instrumentWithin replyText stateWithin eventText next sent after said taken admits roomed roomedBytes hosted readingCall
+unfolding bare less climbWithin digits power rounded fittedTo scaledBy heldWithin multipliedBy lead rest headIs value numberOf behindPoint factorOf afterPlus afterSign powerOf composed fraction afterFraction thresholdOf scientific withinLimits every known same found sheet recognised answers switchingEntry storedEntry cellsFit within fields limited fieldsRead formed valued withFields judged settingText grown kindOf concluded isErr asked byKind heard lineWithin portWithin measured written instrumentWithin replyText stateWithin eventText next sent after said taken admits roomed roomedBytes hosted readingCall
 starred-hold = refl
 
 -- ---- 01's example, its other examples and its wrong readings
@@ -196,7 +196,7 @@ examples =
     ∷ []
 
 pub examples-hold : Hold examples
-unfolding bare less isBelow isAbove climbWithin digits power rounded fittedTo scaledBy lead rest headIs value numberOf behindPoint factorOf afterPlus afterSign powerOf composed fraction afterFraction thresholdOf scientific withinLimits switched every known same found sheet recognised answers switchingEntry storedEntry cellsFit within fields limited fieldsRead formed valued withFields judged settingText grown ticked kindOf concluded isErr asked byKind heard lineWithin portWithin measured written instrumentWithin eachChannel replyText streamText stateWithin eventText next sent after said taken admits roomed roomedBytes hosted tickText counted afterTicks ticksText readingCall cycleCall
+unfolding bare less isBelow isAbove climbWithin digits power rounded fittedTo scaledBy heldWithin multipliedBy lead rest headIs value numberOf behindPoint factorOf afterPlus afterSign powerOf composed fraction afterFraction thresholdOf scientific withinLimits switched every known same found sheet recognised answers switchingEntry storedEntry cellsFit within fields limited fieldsRead formed valued withFields judged settingText grown ticked kindOf concluded isErr asked byKind heard lineWithin portWithin measured written instrumentWithin eachChannel replyText streamText stateWithin eventText next sent after said taken admits roomed roomedBytes hosted tickText counted afterTicks ticksText readingCall cycleCall
 examples-hold = refl
 
 -- ---- W-201
@@ -245,7 +245,7 @@ older =
     ∷ []
 
 pub older-hold : Hold older
-unfolding bare less isBelow isAbove climbWithin digits power rounded fittedTo scaledBy lead rest headIs value numberOf behindPoint factorOf afterPlus afterSign powerOf composed fraction afterFraction thresholdOf scientific withinLimits switched every known same found sheet recognised answers switchingEntry storedEntry cellsFit within fields limited fieldsRead formed valued withFields judged settingText grown ticked kindOf concluded isErr asked byKind heard lineWithin portWithin measured written instrumentWithin eachChannel replyText streamText stateWithin eventText next sent after said taken admits roomed roomedBytes hosted tickText counted afterTicks ticksText readingCall cycleCall
+unfolding bare less isBelow isAbove climbWithin digits power rounded fittedTo scaledBy heldWithin multipliedBy lead rest headIs value numberOf behindPoint factorOf afterPlus afterSign powerOf composed fraction afterFraction thresholdOf scientific withinLimits switched every known same found sheet recognised answers switchingEntry storedEntry cellsFit within fields limited fieldsRead formed valued withFields judged settingText grown ticked kindOf concluded isErr asked byKind heard lineWithin portWithin measured written instrumentWithin eachChannel replyText streamText stateWithin eventText next sent after said taken admits roomed roomedBytes hosted tickText counted afterTicks ticksText readingCall cycleCall
 older-hold = refl
 
 -- a sheet read and copied: the lines that a host makes of it, and of the second box's sheet after them
@@ -258,5 +258,48 @@ abbrev setFrom : List String → State
 setFrom ls = after (freshBox Tpg262 0) (linesSent byCr (map ascii ls))
 
 pub older-sheet-copied : copyOf said byCr (setFrom olderSheet) ≡ map ascii olderSheet
-unfolding flatMap copyLines until bare less isBelow isAbove climbWithin digits power rounded fittedTo scaledBy lead rest headIs value numberOf behindPoint factorOf afterPlus afterSign powerOf composed fraction afterFraction thresholdOf scientific withinLimits switched every known same found sheet recognised answers switchingEntry storedEntry cellsFit within fields limited fieldsRead formed valued withFields judged settingText grown ticked kindOf concluded isErr asked byKind heard lineWithin portWithin measured written instrumentWithin eachChannel replyText streamText stateWithin eventText next sent after said taken admits roomed roomedBytes hosted tickText counted afterTicks ticksText readingCall cycleCall
+unfolding flatMap copyLines until bare less isBelow isAbove climbWithin digits power rounded fittedTo scaledBy heldWithin multipliedBy lead rest headIs value numberOf behindPoint factorOf afterPlus afterSign powerOf composed fraction afterFraction thresholdOf scientific withinLimits switched every known same found sheet recognised answers switchingEntry storedEntry cellsFit within fields limited fieldsRead formed valued withFields judged settingText grown ticked kindOf concluded isErr asked byKind heard lineWithin portWithin measured written instrumentWithin eachChannel replyText streamText stateWithin eventText next sent after said taken admits roomed roomedBytes hosted tickText counted afterTicks ticksText readingCall cycleCall
 older-sheet-copied = refl
+
+-- ---- W-202
+
+-- SP1 with two thresholds in the one unit, and what is told of them in the other
+abbrev follow : (List Call → List ℕ → Example) → String → String → String → String → Example
+follow on old thresholds new got =
+    on (line old ∷ raw (ended byCr (ascii "SP1,0," ++ ascii thresholds)) ∷ line new ∷ asks "SP1" ∷ []) (ackLine ++ ackLine ++ ackLine ++ ackLine ++ (ascii "0," ++ reply got))
+
+abbrev pub followed : List Example
+followed =
+    -- 760 Torr is 1013.25 mbar, and 1.064 Torr 1.41855 mbar: exact halves, rounded upwards
+    follow on362 "UNI,1" "760,1.064" "UNI,0" "1.0133E+03,1.4186E+00"
+    -- the end stops
+    ∷ follow on362 "UNI,4" "1,1E20" "UNI,2" "1.0000E+02,9.9999E+20"
+    ∷ follow on362 "UNI,4" "1E-20,1" "UNI,1" "1.0000E-20,7.5006E-01"
+    -- Torr and micron keep every digit, there and back, but at an end stop
+    ∷ on362 (line "UNI,1" ∷ line "SP1,0,1.2345E-20,6.7891E17" ∷ asks "UNI,3" ∷ asks "SP1" ∷ asks "UNI,1" ∷ asks "SP1" ∷ []) (ackLine ++ ackLine ++ replies ("3" ∷ "0,1.2345E-17,6.7891E+20" ∷ "1" ∷ "0,1.2345E-20,6.7891E+17" ∷ []))
+    ∷ follow on362 "UNI,1" "1.2345E17,1.2345E18" "UNI,3" "1.2345E+20,9.9999E+20"
+    -- mbar is hPa, and a unit is itself
+    ∷ follow on362 "UNI,4" "1.3333,9.9999" "UNI,0" "1.3333E+00,9.9999E+00"
+    ∷ follow on362 "UNI,3" "1.3333,9.9999" "UNI,3" "1.3333E+00,9.9999E+00"
+    -- going back does not restore
+    ∷ on362 (line "SP1,0,1.3333,1" ∷ line "UNI,1" ∷ asks "SP1" ∷ line "UNI,4" ∷ asks "SP1" ∷ []) (ackLine ++ ackLine ++ replies ("0,1.0001E+00,7.5006E-01" ∷ []) ++ ackLine ++ replies ("0,1.3334E+00,1.0000E+00" ∷ []))
+    -- all eight, whatever the assignment
+    ∷ on362 (line "SP1,0,1,2" ∷ line "SP2,1,3,4" ∷ line "SP3,2,5,6" ∷ line "SP4,3,7,8" ∷ line "UNI,2" ∷ map asks ("SP1" ∷ "SP2" ∷ "SP3" ∷ "SP4" ∷ []))
+    (ackLine ++ ackLine ++ ackLine ++ ackLine ++ ackLine ++ replies ("0,1.0000E+02,2.0000E+02" ∷ "1,3.0000E+02,4.0000E+02" ∷ "2,5.0000E+02,6.0000E+02" ∷ "3,7.0000E+02,8.0000E+02" ∷ []))
+    -- the saved set is untouched, a power cycle takes unit and digits together, and SAV,0 stores the defaults' digits
+    ∷ on362 (line "SP1,0,1,2" ∷ line "SAV,1" ∷ line "UNI,2" ∷ asks "SP1" ∷ cycle ∷ asks "UNI" ∷ asks "SP1" ∷ [])
+    (ackLine ++ ackLine ++ ackLine ++ replies ("0,1.0000E+02,2.0000E+02" ∷ "4" ∷ "0,1.0000E+00,2.0000E+00" ∷ []))
+    ∷ on362 (line "UNI,2" ∷ line "SAV,1" ∷ cycle ∷ asks "SP1" ∷ line "SAV,0" ∷ cycle ∷ asks "UNI" ∷ asks "SP1" ∷ [])
+    (ackLine ++ ackLine ++ replies ("0,1.0000E-07,9.0000E-05" ∷ []) ++ ackLine ++ replies ("4" ∷ "0,1.0000E-09,9.0000E-07" ∷ []))
+    -- a refused line changes nothing, and a question neither
+    ∷ on362 (line "UNI,5" ∷ line "UNI,," ∷ line "UNI," ∷ line "UNI,2,2" ∷ asks "UNI" ∷ asks "SP1" ∷ []) (nakLine ++ nakLine ++ nakLine ++ nakLine ++ replies ("4" ∷ "0,1.0000E-09,9.0000E-07" ∷ []))
+    -- a switch waits for the next reading: 1.5 hPa, between 1 and 2, and still between them in Torr
+    ∷ on362 (line "SP1,2,1,2" ∷ linear 1 (pos 50000) (negsuc 0) ∷ linear 1 (pos 15000) (pos 0) ∷ line "UNI,1" ∷ asks "SPS" ∷ linear 1 (pos 15000) (pos 0) ∷ enqCall ∷ linear 1 (pos 20001) (pos 0) ∷ enqCall ∷ [])
+    (ackLine ++ ackLine ++ replies ("1,0,0,0" ∷ []) ++ reply "1,0,0,0" ++ reply "0,0,0,0")
+    -- a 262, from mbar
+    ∷ on262 (line "SP4,1,1,760" ∷ line "UNI,1" ∷ asks "SP4" ∷ line "UNI,2" ∷ asks "SP4" ∷ []) (ackLine ++ ackLine ++ replies ("1,7.5006E-01,5.7005E+02" ∷ []) ++ ackLine ++ replies ("1,1.0000E+02,7.6000E+04" ∷ []))
+    ∷ []
+
+pub followed-hold : Hold followed
+unfolding bare less isBelow isAbove climbWithin digits power rounded fittedTo scaledBy heldWithin multipliedBy lead rest headIs value numberOf behindPoint factorOf afterPlus afterSign powerOf composed fraction afterFraction thresholdOf scientific withinLimits switched every known same found sheet recognised answers switchingEntry storedEntry cellsFit within fields limited fieldsRead formed valued withFields judged settingText grown ticked kindOf concluded isErr asked byKind heard lineWithin portWithin measured written instrumentWithin eachChannel replyText streamText stateWithin eventText next sent after said taken admits roomed roomedBytes hosted tickText counted afterTicks ticksText readingCall cycleCall
+followed-hold = refl

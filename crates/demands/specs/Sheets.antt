@@ -1,4 +1,5 @@
--- Demand 3 (docs/DEMANDS.md has its sentences), said as demand 2 is; and what of the settings no sheet names (02, W-201).
+-- Demand 3 (docs/DEMANDS.md has its sentences), said as demand 2 is, with the thresholds that follow the unit (02, W-202); and what of the
+-- settings no sheet names (02, W-201).
 use Prim.Native.Nat.{ℕ, _+_}
 use Prim.Native.Char.{code}
 use mathlib.Core.Path.{_≡_}
@@ -8,7 +9,7 @@ use lib.ListN.{length, take, drop}
 use Rattle.ground.specs.Members.{Each}
 use Rattle.text.specs.Spans.{until}
 use Rattle.text.specs.Control.{cr, crLf}
-use Rattle.settings.specs.Rows.{listed, row}
+use Rattle.settings.specs.Rows.{listed, row, rowIn}
 use Rattle.settings.specs.Table.{settingEntry, fieldCount}
 use Rattle.settings.specs.Mnemonics.{settingsHeld, sheet, setting, name}
 use Rattle.settings.specs.declared.mnemonic.Setting.{Setting}
@@ -92,6 +93,10 @@ SheetCopied says becomes =
 abbrev pub Same : State → State → Setting → Type 0
 Same a b x = row (boxSettings a) x ≡ row (boxSettings b) x
 
+-- a setting is another box's own, in the unit that the box has: W-202: "that function's thresholds are the second box's own, re-expressed"
+abbrev pub Own : State → State → Setting → Type 0
+Own c b x = row (boxSettings c) x ≡ rowIn (boxSettings c .unit) (boxSettings b) x
+
 -- "Cut after any number of whole lines, the settings named so far are equal and the rest are the second box's own."
 abbrev pub SheetCut : Says → Becomes → Type 0
 SheetCut says becomes =
@@ -99,7 +104,7 @@ SheetCut says becomes =
     → let sent = linesSent f (take n (copyOf says e a)) in
     let named = take n (sheet (boxModel a)) in
     let c = becomes b sent in
-    (says b sent ≡ acks named) × Each (Same c a) named × Each (Same c b) (drop n (sheet (boxModel a)))
+    (says b sent ≡ acks named) × Each (Same c a) named × Each (Own c b) (drop n (sheet (boxModel a)))
 
 -- "Two such boxes give equal sheets exactly when their settings are equal."
 abbrev pub SheetsDecide : Says → Type 0

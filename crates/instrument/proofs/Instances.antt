@@ -15,7 +15,7 @@ use Rattle.gauges.specs.Readings.{noReading, withinLimits, zeroValue}
 use Rattle.gauges.specs.Shown.{shownOf}
 use Rattle.gauges.specs.declared.reading.Reading.{Reading}
 use Rattle.settings.specs.Models.{startsOn}
-use Rattle.settings.specs.Rows.{firstNumber}
+use Rattle.settings.specs.Rows.{firstNumber, withUnit}
 use Rattle.settings.specs.Table.{defaults}
 use Rattle.settings.specs.Mnemonics.{setting}
 use Rattle.settings.specs.Limits.{within}
@@ -28,7 +28,7 @@ use Rattle.settings.specs.declared.mnemonic.Mnemonic.the-variants.{Sav}
 use Rattle.settings.specs.declared.rows.Row.{Row}
 use Rattle.settings.specs.declared.Settings.{Settings}
 use Rattle.settings.proofs.Every.{models}
-use Rattle.settings.proofs.Tabled.{uni-count}
+use Rattle.settings.proofs.Storing.{unit-stored}
 use Rattle.lines.specs.declared.word.Word.{Word}
 use Rattle.lines.specs.declared.verdict.Verdict.the-variants.{Writes}
 use Rattle.instrument.specs.Events.{functionAt, isOn, started, following, measured, written, applied}
@@ -58,9 +58,9 @@ module _ (s : Instrument) (channel : ℕ) (r : Reading) where
 -- ---- a line
 
 module _ (s : Instrument) (r : Row) where
-  pub unit-stored : applied s (Writes (setting Uni) r) .settings .unit ≡ firstNumber r
+  pub unit-written : applied s (Writes (setting Uni) r) .settings ≡ withUnit (s .settings) (firstNumber r)
   unfolding written
-  unit-stored = rw (uni-count (s .model))
+  unit-written = unit-stored (s .model) (s .settings) r
 
   pub sav-zero : firstNumber r ≡ 0 → applied s (Writes Sav r) .saved ≡ defaults (s .model)
   unfolding written

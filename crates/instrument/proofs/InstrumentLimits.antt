@@ -21,7 +21,7 @@ use Rattle.gauges.specs.declared.shown.Shown.{Shown}
 use Rattle.gauges.proofs.ReadingLimits.{none-within}
 use Rattle.settings.specs.Models.{channels, firstFollowing, startsOn, follows, agrees}
 use Rattle.settings.specs.Kinds.{gaugeKinds}
-use Rattle.settings.specs.Rows.{firstNumber, switchingOf, mixed, noSwitching, row}
+use Rattle.settings.specs.Rows.{firstNumber, switchingOf, mixed, noSwitching, row, withUnit}
 use Rattle.settings.specs.Table.{TableRow, kindsOf, defaults, fieldCount, stored}
 use Rattle.settings.specs.Mnemonics.{setting}
 use Rattle.settings.specs.Limits.{within, SettingsShaped}
@@ -35,6 +35,7 @@ use Rattle.settings.specs.declared.Switching.{Switching}
 use Rattle.settings.specs.declared.Settings.{Settings}
 use Rattle.settings.proofs.Every.{channels-few}
 use Rattle.settings.proofs.KindNames.{absent-kind}
+use Rattle.settings.proofs.Storing.{function-in, unit-stored}
 use Rattle.settings.proofs.Tabled.{switching-there}
 use Rattle.settings.proofs.StoredLimits.{defaults-within, defaults-shaped}
 use Rattle.lines.specs.Judging.{judged, effect}
@@ -159,21 +160,22 @@ module _ (s : Instrument) (r : Row) where
   saved-keeps P a b d Com = b
   saved-keeps P a b d Sav = cond-cases P (eqb (firstNumber r) 0) (defaults (s .model)) (s .settings) (λ _. d) (λ _. a)
 
-  -- only SPx moves a switch, and the switching function beside it
+  -- only SPx moves a switch, and the switching function beside it; UNI takes all functions to the unit
   moved-by : (P : List Switching → List Bool → Type 0) → P (s .settings .switching) (s .switches)
+      → P (withUnit (s .settings) (firstNumber r) .switching) (s .switches)
       → ((k : ℕ) → P (stored (s .model) (s .settings) (setting (Sp k)) r .switching) (set (s .switches) k (startsOn (s .model) (firstNumber r))))
       → (m : Mnemonic) → P (stored (s .model) (s .settings) m r .switching) (switchesBy s m r)
-  moved-by P same moved (OfReplying (OfSetting (Sp k))) = moved k
-  moved-by P same moved (OfReplying (OfSetting Uni)) = same
-  moved-by P same moved (OfReplying (OfSetting Cal)) = same
-  moved-by P same moved (OfReplying (OfSetting (Stored k))) = same
-  moved-by P same moved (OfReplying (Cf k)) = same
-  moved-by P same moved (OfReplying (OfQuery q)) = same
-  moved-by P same moved Com = same
-  moved-by P same moved Sav = same
+  moved-by P same unit moved (OfReplying (OfSetting (Sp k))) = moved k
+  moved-by P same unit moved (OfReplying (OfSetting Uni)) = subst (λ (t : Settings). P (t .switching) (s .switches)) (sym (unit-stored (s .model) (s .settings) r)) unit
+  moved-by P same unit moved (OfReplying (OfSetting Cal)) = same
+  moved-by P same unit moved (OfReplying (OfSetting (Stored k))) = same
+  moved-by P same unit moved (OfReplying (Cf k)) = same
+  moved-by P same unit moved (OfReplying (OfQuery q)) = same
+  moved-by P same unit moved Com = same
+  moved-by P same unit moved Sav = same
 
   switches-count : (m : Mnemonic) → length (switchesBy s m r) ≡ length (s .switches)
-  switches-count = moved-by (λ ws on. length on ≡ length (s .switches)) refl (λ k. length-set (s .switches) k (startsOn (s .model) (firstNumber r)))
+  switches-count = moved-by (λ ws on. length on ≡ length (s .switches)) refl refl (λ k. length-set (s .switches) k (startsOn (s .model) (firstNumber r)))
 
   module _ (t : InstrumentShaped s) (i : ℕ) (l : i ≤ 3) (h : status s i ≡ true) where
     -- after SPx that switching function is as it starts, and the others are as they were
@@ -205,7 +207,7 @@ module _ (s : Instrument) (r : Row) where
 
     written-agrees : (m : Mnemonic) → switchWithin (s .model) (stored (s .model) (s .settings) m r .switching) (switchesBy s m r) i ≡ true
     written-agrees =
-        moved-by (λ ws on. switchWithin (s .model) ws on i ≡ true) h
+        moved-by (λ ws on. switchWithin (s .model) ws on i ≡ true) h (rw (function-in (s .settings) (firstNumber r) i) h)
         (λ k. assigned k (switchingOf (mixed (fieldCount (s .model) (Sp k)) r (row (s .settings) (Sp k)))) (assignment-is k))
 
 module _ (s : Instrument) where

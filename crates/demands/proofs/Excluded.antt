@@ -1,4 +1,4 @@
--- The empty programs that 01 excludes by name: none of them meets the demand that it names.
+-- The empty programs that 01 excludes by name, and the box before W-202: none of them meets the demand that it names.
 use Prim.Native.Nat.{ℕ}
 use Prim.Native.String.{String}
 use mathlib.Core.Path.{_≡_, refl, sym, ap, subst, _∙_}
@@ -6,20 +6,22 @@ use mathlib.Core.List.{List, [], _∷_, _++_, map, flatMap, append-nil}
 use mathlib.Core.Bool.{Bool, true, false, not}
 use mathlib.Core.Logic.{_≢_}
 use native.Mathlib.Omega.{arith}
-use borrow.Author.Tests.{not-true}
+use borrow.Author.Tests.{not-true, eqb-false}
 use lib.ListN.{getD, take, drop}
+use lib.Dec.{eqb}
 use Rattle.ground.specs.Members.{every, Each}
 use Rattle.ground.proofs.Cases.{never}
-use Rattle.ground.proofs.Members.{each-map, each-both, every-each}
+use Rattle.ground.proofs.Members.{each-map, each-both, each-take, each-drop, every-each}
 use Rattle.text.specs.Text.{ascii}
 use Rattle.text.specs.Digits.{bare}
 use Rattle.text.specs.Control.{crLf, ack}
-use Rattle.numbers.specs.Rounding.{climbWithin, digits, power, rounded, fittedTo}
+use Rattle.numbers.specs.Numbers.{less}
+use Rattle.numbers.specs.Rounding.{climbWithin, digits, power, rounded, fittedTo, heldWithin, multipliedBy}
 use Rattle.numerals.specs.Runs.{lead, rest, headIs, value}
 use Rattle.numerals.specs.Whole.{numberOf, behindPoint, factorOf}
 use Rattle.numerals.specs.Exponential.{afterPlus, afterSign, powerOf, composed, fraction, afterFraction, thresholdOf}
 use Rattle.numerals.specs.Writing.{scientific}
-use Rattle.settings.specs.Rows.{listed, row}
+use Rattle.settings.specs.Rows.{firstNumber, secondNumber, listed, row, rowIn}
 use Rattle.settings.specs.Table.{switchingEntry, storedEntry, kinds, defaults, fieldCount}
 use Rattle.settings.specs.Mnemonics.{sheet, setting, known, name, same, found, recognised}
 use Rattle.settings.specs.declared.model.Model.{Model}
@@ -53,8 +55,8 @@ use Rattle.tpg.specs.declared.State.{State}
 use Rattle.tpg.proofs.StateLimits.{fresh-sound, after-sound, after-model}
 use Rattle.demands.specs.Wire.{Inner, lineIn, byCr, ended, Ready, Way, sending, asOften, answered}
 use Rattle.demands.specs.Replies.{Says, Becomes, Reads, Replies}
-use Rattle.demands.specs.Sheets.{boxModel, boxSettings, Boxes, firstLine, copyOf, linesSent}
-use Rattle.demands.specs.Demands.{Meets, NaksAll, once, told, BlindToLines, BlindToStates, Forgets, SilentBut}
+use Rattle.demands.specs.Sheets.{boxModel, boxSettings, Boxes, firstLine, copyOf, linesSent, Same, Own}
+use Rattle.demands.specs.Demands.{Meets, NaksAll, once, told, BlindToLines, BlindToStates, Forgets, KeepsDigits, SilentBut}
 use Rattle.demands.proofs.Spelling.{setting-characters}
 use Rattle.demands.proofs.Copying.{first-line, no-cr}
 
@@ -174,6 +176,54 @@ stores model x h differs says becomes meets forgets =
 -- demand 3, "the settings are equal": whichever setting of the sheet it is that a program never stores
 pub forgets : (model : Model) → Each Stores (sheet model)
 forgets model = each-moved Stores model (stores model)
+
+-- ---- one that keeps threshold digits
+
+abbrev functions : List Setting
+functions = Sp 0 ∷ Sp 1 ∷ Sp 2 ∷ Sp 3 ∷ []
+
+-- a fresh 362's lower threshold has other digits in Torr
+abbrev follows : Setting → Bool
+follows x = not (eqb (secondNumber (rowIn 1 (defaults Tpg362) x)) (secondNumber (row (defaults Tpg362) x)))
+
+all-follow : Each (λ (x : Setting). follows x ≡ true) functions
+unfolding less climbWithin digits power rounded heldWithin multipliedBy every
+all-follow = every-each follows functions refl
+
+torr : boxSettings (changed Tpg362 Uni) .unit ≡ 1
+unfolding changed others bare lead rest headIs value numberOf known same found recognised switchingEntry storedEntry fields limited fieldsRead formed valued withFields judged grown kindOf concluded asked byKind heard written eventText next sent after
+torr = refl
+
+-- the first line of the sheet of a box in Torr, sent to a fresh 362
+module _ (says : Says) (becomes : Becomes) (meets : Meets says becomes) where
+  boxes : Boxes (changed Tpg362 Uni) (fresh Tpg362)
+  boxes = record { first = changed-sound Tpg362 Uni; second = fresh-sound Tpg362 0 refl; model = changed-model Tpg362 Uni }
+
+  abbrev behindUnit : State
+  behindUnit = becomes (fresh Tpg362) (linesSent byCr (take 1 (copyOf says byCr (changed Tpg362 Uni))))
+
+  unit-sent : boxSettings behindUnit .unit ≡ 1
+  unfolding sheet switchingEntry storedEntry
+  unit-sent =
+      let cut = meets .cut (changed Tpg362 Uni) (fresh Tpg362) boxes byCr byCr 1 in
+      ap firstNumber (subst (λ (m : Model). Each (Same behindUnit (changed Tpg362 Uni)) (take 1 (sheet m))) (changed-model Tpg362 Uni) (cut .1) .0) ∙ torr
+
+  own-thresholds : Each (Own behindUnit (fresh Tpg362)) functions
+  unfolding sheet switchingEntry storedEntry
+  own-thresholds =
+      let own = Own behindUnit (fresh Tpg362) in
+      let cut = meets .cut (changed Tpg362 Uni) (fresh Tpg362) boxes byCr byCr 1 in
+      let behind = subst (λ (m : Model). Each own (drop 1 (sheet m))) (changed-model Tpg362 Uni) (cut .2) in
+      each-take own 4 (drop 4 (sheet Tpg362)) (each-drop own 3 (drop 1 (sheet Tpg362)) behind)
+
+  not-kept : (x : Setting) → follows x ≡ true → Own behindUnit (fresh Tpg362) x → KeepsDigits says becomes x → ⊥
+  not-kept x f own keeps =
+      let same = keeps (changed Tpg362 Uni) (fresh Tpg362) boxes byCr byCr in
+      eqb-false _ _ (not-true _ f) (ap (λ (u : ℕ). secondNumber (rowIn u (defaults Tpg362) x)) (sym unit-sent) ∙ sym (ap secondNumber own) ∙ ap secondNumber same)
+
+  -- demand 3, "re-expressed": whichever of the four functions it is
+  pub keeps-digits : Each (λ (x : Setting). KeepsDigits says becomes x → ⊥) functions
+  keeps-digits = each-both (λ (x : Setting). follows x ≡ true) (Own behindUnit (fresh Tpg362)) _ not-kept functions all-follow own-thresholds
 
 -- ---- one that knows patterns, and sends nothing elsewhere
 

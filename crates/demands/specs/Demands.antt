@@ -75,6 +75,10 @@ BlindToStates says x = (s t : State) → told says s (OfSetting x) ≡ told says
 abbrev pub Forgets : Says → Becomes → Setting → Type 0
 Forgets says becomes x = (a b : State) → Boxes a b → (e f : End) → Same (becomes b (linesSent f (copyOf says e a))) b x
 
+-- one that keeps a function's threshold digits when another unit is sent: 01 before W-202
+abbrev pub KeepsDigits : Says → Becomes → Setting → Type 0
+KeepsDigits says becomes x = (a b : State) → Boxes a b → (e f : End) → Same (becomes b (linesSent f (take 1 (copyOf says e a)))) b x
+
 -- one that knows a list of patterns, whatever they are, and sends nothing for any other bytes
 abbrev pub SilentBut : (List ℕ → Type 0) → Says → Type 0
 SilentBut Listed says = (s : State) (bytes : List ℕ) → (Listed bytes → ⊥) → says s bytes ≡ []

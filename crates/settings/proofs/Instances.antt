@@ -4,15 +4,17 @@ use Prim.Native.String.{String}
 use mathlib.Core.Path.{_≡_, refl}
 use mathlib.Core.Bool.{Bool, true, false}
 use mathlib.Core.List.{List, [], _∷_, map}
-use lib.IntN.{negsuc}
+use lib.IntN.{ℤ, pos, negsuc}
 use lib.ListN.{length, drop, replicate, set}
 use Rattle.ground.specs.Members.{every, those}
 use Rattle.ground.proofs.Tables.{entries}
 use Rattle.text.specs.Text.{ascii}
+use Rattle.numbers.specs.Numbers.{less}
+use Rattle.numbers.specs.Rounding.{climbWithin, digits, power, rounded, heldWithin, multipliedBy}
 use Rattle.numbers.specs.declared.threshold.Threshold.{Threshold}
 use Rattle.settings.specs.Models.{modelOf, channels, names, powerOnMode, startsOn, follows, agrees}
 use Rattle.settings.specs.Kinds.{gaugeKinds, kindName}
-use Rattle.settings.specs.Rows.{pairRow, firstNumber, secondNumber, listed, row, withStored}
+use Rattle.settings.specs.Rows.{pairRow, firstNumber, secondNumber, listed, row, switchingIn, withStored}
 use Rattle.settings.specs.Table.{switchingEntry, storedEntry, defaults}
 use Rattle.settings.specs.Mnemonics.{settingsHeld, sheet, sheetAt, setting, knows, others, known, name, same, found, recognised, channelOf, isErr}
 use Rattle.settings.specs.Limits.{cellsFit, within}
@@ -25,6 +27,7 @@ use Rattle.settings.specs.declared.mnemonic.Query.the-variants.{Pr, Ayt,
 use Rattle.settings.specs.declared.mnemonic.Named.the-variants.{Known, Unknown}
 use Rattle.settings.specs.declared.mnemonic.Replying.the-variants.{Cf, OfQuery}
 use Rattle.settings.specs.declared.mnemonic.Mnemonic.the-variants.{OfReplying, Sav}
+use Rattle.settings.specs.declared.Switching.{Switching}
 use Rattle.settings.proofs.Every.{models}
 
 -- the same on a 361 and a 362, and on a 262
@@ -133,3 +136,11 @@ pub lacking-cells : holding 1 3 3 ∷ holding 1 3 2 ∷ holding 6 2 0 ∷ holdin
     ≡ (false ∷ true ∷ false ∷ []) ∷ (false ∷ true ∷ true ∷ []) ∷ unlike true false ∷ unlike false true ∷ unlike false true ∷ []
 unfolding every cellsFit switchingEntry storedEntry within
 lacking-cells = refl
+
+-- W-202: "all eight", whatever the assignment: 1 and 2 hPa in Pa
+abbrev oneAndTwo : ℤ → ℕ → Switching
+oneAndTwo power n = record { assignment = n; lower = record { mantissa = 10000; exponent = power }; upper = record { mantissa = 20000; exponent = power } }
+
+pub all-follow : entries (λ (n : ℕ). switchingIn 4 2 (oneAndTwo (pos 0) n)) 4 0 ≡ entries (oneAndTwo (pos 2)) 4 0
+unfolding less climbWithin digits power rounded heldWithin multipliedBy
+all-follow = refl

@@ -264,23 +264,23 @@ older-sheet-copied = refl
 -- ---- W-202
 
 -- SP1 with two thresholds in the one unit, and what is told of them in the other
-abbrev follow : (List Call → List ℕ → Example) → String → String → String → String → Example
-follow on old thresholds new got =
-    on (line old ∷ raw (ended byCr (ascii "SP1,0," ++ ascii thresholds)) ∷ line new ∷ asks "SP1" ∷ []) (ackLine ++ ackLine ++ ackLine ++ ackLine ++ (ascii "0," ++ reply got))
+abbrev follow : String → String → String → String → Example
+follow old thresholds new got =
+    on362 (line old ∷ raw (ended byCr (ascii "SP1,0," ++ ascii thresholds)) ∷ line new ∷ asks "SP1" ∷ []) (ackLine ++ ackLine ++ ackLine ++ ackLine ++ (ascii "0," ++ reply got))
 
 abbrev pub followed : List Example
 followed =
     -- 760 Torr is 1013.25 mbar, and 1.064 Torr 1.41855 mbar: exact halves, rounded upwards
-    follow on362 "UNI,1" "760,1.064" "UNI,0" "1.0133E+03,1.4186E+00"
+    follow "UNI,1" "760,1.064" "UNI,0" "1.0133E+03,1.4186E+00"
     -- the end stops
-    ∷ follow on362 "UNI,4" "1,1E20" "UNI,2" "1.0000E+02,9.9999E+20"
-    ∷ follow on362 "UNI,4" "1E-20,1" "UNI,1" "1.0000E-20,7.5006E-01"
+    ∷ follow "UNI,4" "1,1E20" "UNI,2" "1.0000E+02,9.9999E+20"
+    ∷ follow "UNI,4" "1E-20,1" "UNI,1" "1.0000E-20,7.5006E-01"
     -- Torr and micron keep every digit, there and back, but at an end stop
     ∷ on362 (line "UNI,1" ∷ line "SP1,0,1.2345E-20,6.7891E17" ∷ asks "UNI,3" ∷ asks "SP1" ∷ asks "UNI,1" ∷ asks "SP1" ∷ []) (ackLine ++ ackLine ++ replies ("3" ∷ "0,1.2345E-17,6.7891E+20" ∷ "1" ∷ "0,1.2345E-20,6.7891E+17" ∷ []))
-    ∷ follow on362 "UNI,1" "1.2345E17,1.2345E18" "UNI,3" "1.2345E+20,9.9999E+20"
+    ∷ follow "UNI,1" "1.2345E17,1.2345E18" "UNI,3" "1.2345E+20,9.9999E+20"
     -- mbar is hPa, and a unit is itself
-    ∷ follow on362 "UNI,4" "1.3333,9.9999" "UNI,0" "1.3333E+00,9.9999E+00"
-    ∷ follow on362 "UNI,3" "1.3333,9.9999" "UNI,3" "1.3333E+00,9.9999E+00"
+    ∷ follow "UNI,4" "1.3333,9.9999" "UNI,0" "1.3333E+00,9.9999E+00"
+    ∷ follow "UNI,3" "1.3333,9.9999" "UNI,3" "1.3333E+00,9.9999E+00"
     -- going back does not restore
     ∷ on362 (line "SP1,0,1.3333,1" ∷ line "UNI,1" ∷ asks "SP1" ∷ line "UNI,4" ∷ asks "SP1" ∷ []) (ackLine ++ ackLine ++ replies ("0,1.0001E+00,7.5006E-01" ∷ []) ++ ackLine ++ replies ("0,1.3334E+00,1.0000E+00" ∷ []))
     -- all eight, whatever the assignment
@@ -293,9 +293,12 @@ followed =
     (ackLine ++ ackLine ++ replies ("0,1.0000E-07,9.0000E-05" ∷ []) ++ ackLine ++ replies ("4" ∷ "0,1.0000E-09,9.0000E-07" ∷ []))
     -- a refused line changes nothing, and a question neither
     ∷ on362 (line "UNI,5" ∷ line "UNI,," ∷ line "UNI," ∷ line "UNI,2,2" ∷ asks "UNI" ∷ asks "SP1" ∷ []) (nakLine ++ nakLine ++ nakLine ++ nakLine ++ replies ("4" ∷ "0,1.0000E-09,9.0000E-07" ∷ []))
-    -- a switch waits for the next reading: 1.5 hPa, between 1 and 2, and still between them in Torr
-    ∷ on362 (line "SP1,2,1,2" ∷ linear 1 (pos 50000) (negsuc 0) ∷ linear 1 (pos 15000) (pos 0) ∷ line "UNI,1" ∷ asks "SPS" ∷ linear 1 (pos 15000) (pos 0) ∷ enqCall ∷ linear 1 (pos 20001) (pos 0) ∷ enqCall ∷ [])
-    (ackLine ++ ackLine ++ replies ("1,0,0,0" ∷ []) ++ reply "1,0,0,0" ++ reply "0,0,0,0")
+    -- a switch waits for the next reading: 1.3333 hPa is 1.0001 Torr and not below that, but below 1.3334 hPa
+    ∷ on362 (line "UNI,1" ∷ line "SP1,2,1.0001,2" ∷ linear 1 (pos 13333) (pos 0) ∷ line "UNI,4" ∷ asks "SPS" ∷ linear 1 (pos 13333) (pos 0) ∷ enqCall ∷ [])
+    (ackLine ++ ackLine ++ ackLine ++ replies ("0,0,0,0" ∷ []) ++ reply "1,0,0,0")
+    -- and then by the new thresholds: 2.0001 hPa is 1.5002 Torr, above 2 hPa as 1.5001 and below 2 Torr
+    ∷ on362 (line "SP1,2,1,2" ∷ linear 1 (pos 50000) (negsuc 0) ∷ line "UNI,1" ∷ asks "SPS" ∷ linear 1 (pos 20001) (pos 0) ∷ enqCall ∷ [])
+    (ackLine ++ ackLine ++ replies ("1,0,0,0" ∷ []) ++ reply "0,0,0,0")
     -- a 262, from mbar
     ∷ on262 (line "SP4,1,1,760" ∷ line "UNI,1" ∷ asks "SP4" ∷ line "UNI,2" ∷ asks "SP4" ∷ []) (ackLine ++ ackLine ++ replies ("1,7.5006E-01,5.7005E+02" ∷ []) ++ ackLine ++ replies ("1,1.0000E+02,7.6000E+04" ∷ []))
     ∷ []

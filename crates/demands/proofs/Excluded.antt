@@ -183,12 +183,12 @@ abbrev functions : List Setting
 functions = Sp 0 ∷ Sp 1 ∷ Sp 2 ∷ Sp 3 ∷ []
 
 -- a fresh 362's lower threshold has other digits in Torr
-abbrev follows : Setting → Bool
-follows x = not (eqb (secondNumber (rowIn 1 (defaults Tpg362) x)) (secondNumber (row (defaults Tpg362) x)))
+abbrev otherDigits : Setting → Bool
+otherDigits x = not (eqb (secondNumber (rowIn 1 (defaults Tpg362) x)) (secondNumber (row (defaults Tpg362) x)))
 
-all-follow : Each (λ (x : Setting). follows x ≡ true) functions
+all-other : Each (λ (x : Setting). otherDigits x ≡ true) functions
 unfolding less climbWithin digits power rounded heldWithin multipliedBy every
-all-follow = every-each follows functions refl
+all-other = every-each otherDigits functions refl
 
 torr : boxSettings (changed Tpg362 Uni) .unit ≡ 1
 unfolding changed others bare lead rest headIs value numberOf known same found recognised switchingEntry storedEntry fields limited fieldsRead formed valued withFields judged grown kindOf concluded asked byKind heard written eventText next sent after
@@ -216,14 +216,14 @@ module _ (says : Says) (becomes : Becomes) (meets : Meets says becomes) where
       let behind = subst (λ (m : Model). Each own (drop 1 (sheet m))) (changed-model Tpg362 Uni) (cut .2) in
       each-take own 4 (drop 4 (sheet Tpg362)) (each-drop own 3 (drop 1 (sheet Tpg362)) behind)
 
-  not-kept : (x : Setting) → follows x ≡ true → Own behindUnit (fresh Tpg362) x → KeepsDigits says becomes x → ⊥
+  not-kept : (x : Setting) → otherDigits x ≡ true → Own behindUnit (fresh Tpg362) x → KeepsDigits says becomes x → ⊥
   not-kept x f own keeps =
       let same = keeps (changed Tpg362 Uni) (fresh Tpg362) boxes byCr byCr in
       eqb-false _ _ (not-true _ f) (ap (λ (u : ℕ). secondNumber (rowIn u (defaults Tpg362) x)) (sym unit-sent) ∙ sym (ap secondNumber own) ∙ ap secondNumber same)
 
   -- demand 3, "re-expressed": whichever of the four functions it is
   pub keeps-digits : Each (λ (x : Setting). KeepsDigits says becomes x → ⊥) functions
-  keeps-digits = each-both (λ (x : Setting). follows x ≡ true) (Own behindUnit (fresh Tpg362)) _ not-kept functions all-follow own-thresholds
+  keeps-digits = each-both (λ (x : Setting). otherDigits x ≡ true) (Own behindUnit (fresh Tpg362)) _ not-kept functions all-other own-thresholds
 
 -- ---- one that knows patterns, and sends nothing elsewhere
 

@@ -37,6 +37,10 @@ cond-cases P false x y f g = g refl
 pub in-range : (low high m : ℕ) → inRange low high m ≡ true → (low ≤ m) × (m ≤ high)
 in-range low high m h = let b = and-eq-true-iff (leb low m) (leb m high) .0 h in (leb-true low m (b .0), leb-true m high (b .1))
 
+-- and the other way round
+pub to-range : (low high m : ℕ) → low ≤ m → m ≤ high → inRange low high m ≡ true
+to-range low high m l h = rw (le-leb low m l, le-leb m high h)
+
 -- one limit alone, as a rule by which `omega` reads the test whatever its limits are; the upper one behind another test
 pub range-low : (low high m : ℕ) → inRange low high m ≡ true → low ≤ m
 range-low low high m h = in-range low high m h .0

@@ -14,7 +14,7 @@ use Rattle.numbers.proofs.Order.{same-number}
 
 module _ (p n d : ℕ) (x : ℤ) (t : Threshold) where
   -- n / d times ten to the x is t
-  abbrev pub Exactly : Type 0
+  abbrev Exactly : Type 0
   Exactly = n * least p * tens x * tenths (t .exponent) ≡ t .mantissa * tens (t .exponent) * (d * tenths x)
 
   exact-nearest : 0 < d → Exactly → Nearest p n d x t

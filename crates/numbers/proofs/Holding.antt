@@ -5,9 +5,10 @@ use mathlib.Core.Bool.{Bool, true, false, _&&_, and-eq-true-iff}
 use mathlib.Core.Logic.{⊎-elim}
 use mathlib.Mathlib.Data.Bool.Basic.{dichotomy}
 use native.Mathlib.Omega.{arith}
-use borrow.Author.Tests.{ltb-false, le-ltb, le-leb}
+use borrow.Author.Tests.{ltb-false, le-ltb}
 use lib.IntN.{ℤ, pos, negsuc, natAbs, _+ℤ_, _-ℤ_}
 use lib.Signed.{ltZ}
+use Rattle.ground.proofs.Cases.{to-range}
 use Rattle.numbers.specs.Numbers.{five, OfDigits, fiveDigits, withinStops, isFive, less, asValue}
 use Rattle.numbers.specs.Rounding.{leastStop, mostStop, heldWithin, isUsable, product, multipliedBy, Nearest}
 use Rattle.numbers.specs.declared.threshold.Threshold.{Threshold}
@@ -75,7 +76,7 @@ module _ (t : Threshold) (h : OfDigits five (t .mantissa)) where
       Within u = withinStops u ≡ true
 
       within : ltZ (t .exponent) (negsuc 19) ≡ false → ltZ (pos 20) (t .exponent) ≡ false → Within t
-      within n k = rw (le-leb 10000 (t .mantissa) (h .0), le-leb (t .mantissa) 99999 (omega arith), near-between 19 (t .exponent) (beyond-neither (t .exponent) n k))
+      within n k = rw (to-range 10000 99999 (t .mantissa) (h .0) (omega arith), near-between 19 (t .exponent) (beyond-neither (t .exponent) n k))
 
 -- and what lies within them is held as it is
 pub held-within : (t : Threshold) → withinStops t ≡ true → heldWithin t ≡ t
@@ -96,7 +97,7 @@ module _ (t : Threshold) (r : Ratio) where
     pub scalable : isFive (asValue t) && isUsable r ≡ true
     scalable =
         let m = stops-digits t (parts .0) in
-        rw (le-leb 10000 (t .mantissa) (m .0), le-leb (t .mantissa) 99999 (omega arith), near-between 98 (t .exponent) (omega (arith, stops-near t (parts .0))), parts .1)
+        rw (to-range 10000 99999 (t .mantissa) (m .0) (omega arith), near-between 98 (t .exponent) (omega (arith, stops-near t (parts .0))), parts .1)
 
     pub multiplied-is : multipliedBy t r ≡ heldWithin (product five (asValue t) r)
     unfolding multipliedBy

@@ -4,11 +4,10 @@ use mathlib.Core.Path.{_≡_, refl, sym, _∙_}
 use mathlib.Core.Bool.{Bool, true, _&&_, and-eq-true-iff}
 use native.Mathlib.Omega.{arith}
 use native.Mathlib.Nat.{mul-le-mul, mul-pos}
-use borrow.Author.Tests.{le-leb}
 use lib.IntN.{ℤ, pos, _+ℤ_, _-ℤ_, +ℤ-idr, -ℤ-+ℤ-cancel}
 use Rattle.ground.specs.Members.{every}
 use Rattle.ground.specs.Ranges.{inRange}
-use Rattle.ground.proofs.Cases.{in-range}
+use Rattle.ground.proofs.Cases.{in-range, to-range}
 use Rattle.ground.proofs.Members.{each-at, every-each}
 use Rattle.numbers.specs.Numbers.{five, OfDigits, withinStops}
 use Rattle.numbers.specs.Rounding.{isUsable, heldWithin, Nearest}
@@ -31,8 +30,7 @@ parts unit =
     (in-range 1 10000000 (fromHpa unit .over) (both .0), in-range 1 10000 (fromHpa unit .under) (both .1))
 
 is-usable : (r : Ratio) → (1 ≤ r .over) × (r .over ≤ 1000000000000) → (1 ≤ r .under) × (r .under ≤ 1000000000000) → isUsable r ≡ true
-is-usable r o u =
-    rw (le-leb 1 (r .over) (o .0), le-leb (r .over) 1000000000000 (o .1), le-leb 1 (r .under) (u .0), le-leb (r .under) 1000000000000 (u .1))
+is-usable r o u = rw (to-range 1 1000000000000 (r .over) (o .0) (o .1), to-range 1 1000000000000 (r .under) (u .0) (u .1))
 
 pub usable : (unit : ℕ) → isUsable (fromHpa unit) ≡ true
 usable unit = let p = parts unit in is-usable (fromHpa unit) (omega arith) (omega arith)

@@ -1,13 +1,11 @@
--- The threshold reader: what each exit of its definitions asks, and its digits put together from two runs.
+-- The threshold reader: what each exit of its definitions asks, and the digits of its two runs.
 use Prim.Native.Nat.{ℕ, _+_, _-_, _≤_}
 use Prim.Native.Char.{code}
-use mathlib.Core.Path.{_≡_, sym, ap, ap₂, _∙_}
+use mathlib.Core.Path.{_≡_, ap₂, _∙_}
 use mathlib.Core.List.{List, _++_}
 use mathlib.Core.Bool.{true, false}
 use native.Mathlib.Omega.{arith}
-use native.Mathlib.Nat.{zero-add}
-use lib.ListN.{length, drop, take, length-append}
-use lib.Seq.{paste, take-paste, length-paste}
+use lib.ListN.{length, drop, length-append}
 use Rattle.numerals.specs.Runs.{part, lead, rest, headIs, lengthIn}
 use Rattle.numerals.specs.Exponential.{afterPlus, powerOf, weighed, composed, fraction, afterFraction, thresholdOf}
 use Rattle.numerals.specs.declared.exponential.ThresholdNumeral.the-variants.{NoThreshold}
@@ -21,16 +19,6 @@ module _ (whole fraction s : List ℕ) where
   pub composed-left : lengthIn 1 12 (whole ++ fraction) ≡ false → NoThreshold ≡ composed whole fraction s
   unfolding composed
   composed-left h = rw h
-
--- two runs written one behind the other over twelve places
-pub two-runs : (z x y : List ℕ) (n m : ℕ) → length z ≡ 12 → n ≤ length x → m ≤ length y → n + m ≤ 12
-    → part 0 (n + m) (paste (paste z 0 x n) n y m) ≡ take n x ++ take m y
-two-runs z x y n m hz hx hy h =
-    let a = paste z 0 x n in
-    let long : length a ≡ 12 = length-paste z 0 x n (omega arith) hx ∙ hz in
-    let front : take n a ≡ take n x = ap (λ (k : ℕ). take k a) (sym (zero-add n)) ∙ take-paste z 0 x n (omega arith) hx in
-    ap (λ (k : ℕ). take k (paste a n y m)) (let k : n + m - 0 ≡ n + m = omega arith in k)
-    ∙ take-paste a n y m (omega (arith, long)) hy ∙ ap (λ (l : List ℕ). l ++ take m y) front
 
 -- how many digits there are
 pub count-runs : (s : List ℕ) (a p b q : ℕ) → a ≤ p → p ≤ b → b ≤ q → q ≤ length s → length (part a p s ++ part b q s) ≡ (p - a) + (q - b)

@@ -5,12 +5,13 @@ use mathlib.Core.List.{List, [], _∷_, _++_}
 use mathlib.Core.Bool.{Bool, true, false, cond, _&&_}
 use mathlib.Core.Logic.{⊎-elim}
 use native.Mathlib.Omega.{arith}
-use native.Mathlib.Nat.{pow-suc, pow-le-pow-right, lt-of-lt-of-le}
+use native.Mathlib.Nat.{pow-suc, pow-le-pow-right, lt-of-lt-of-le, mul-le-mul-left, mul-le-mul-right}
 use native.Mathlib.Numerals.{add-one}
 use borrow.Author.Tests.{le-leb, lt-leb, leb-true}
 use lib.ListN.{length, getD, drop, take, drop-of-length-le, length-drop}
 use lib.Seq.{drop-cons, drop-drop, take-all, length-take-le}
 use lib.Dec.{T, leb, eqb}
+use lib.Pow.{pow-add}
 use Rattle.ground.proofs.Cases.{below, eqb-same}
 use Rattle.numerals.specs.Runs.{part, isDigit, lead, rest, headIs, value}
 
@@ -99,12 +100,24 @@ pub value-more : (n : ℕ) (s : List ℕ) (b : ℕ) → value n (b ∷ s) ≡ va
 unfolding value
 value-more n s b = refl
 
--- the bound of what bytes make: each counts at most 207
-pub bound-more : (n i d : ℕ) → n + 23 ≤ 23 * 10 ^ i → d ≤ 207 → n * 10 + d + 23 ≤ 23 * 10 ^ (i + 1)
-bound-more n i d h l = rw (add-one, pow-suc) (omega arith)
+-- the bound of what k bytes make behind n: each counts at most 207, so n + 23 grows at most tenfold with each
+module _ (n k : ℕ) where
+  pub bound-more : (d : ℕ) → d ≤ 207 → (n * 10 + d + 23) * 10 ^ k ≤ (n + 23) * 10 ^ (k + 1)
+  bound-more d h =
+      let one : n * 10 + d + 23 ≤ (n + 23) * 10 = omega arith in
+      rw (add-one, pow-suc) (omega (arith, mul-le-mul-right (10 ^ k) one))
 
-pub bound-below : (n i k : ℕ) → n + 23 ≤ 23 * 10 ^ i → i ≤ k → n + 23 ≤ 23 * 10 ^ k
-bound-below n i k h l = omega (arith, pow-le-pow-right {n = 10} (omega arith) {i = i} {j = k} l)
+  pub bound-next : 1 ≤ k → (n + 23) * 10 ≤ (n + 23) * 10 ^ k
+  bound-next h = mul-le-mul-left (n + 23) (pow-le-pow-right {n = 10} (omega arith) {i = 1} {j = k} h)
+
+  pub bound-below : (i : ℕ) → n + 23 ≤ 23 * 10 ^ i → i ≤ k → n + 23 ≤ 23 * 10 ^ k
+  bound-below i h l = omega (arith, pow-le-pow-right {n = 10} (omega arith) {i = i} {j = k} l)
+
+-- what i bytes make leaves room for k more, up to twelve in all
+pub bound-room : (n i k : ℕ) → n + 23 ≤ 23 * 10 ^ i → i + k ≤ 12 → (n + 23) * 10 ^ k ≤ 23 * 10 ^ 12
+bound-room n i k h l =
+    let all : 10 ^ i * 10 ^ k ≤ 10 ^ 12 = rw (← pow-add 10 i k) (pow-le-pow-right {n = 10} (omega arith) {i = i + k} {j = 12} l) in
+    omega (arith, all, mul-le-mul-right (10 ^ k) h)
 
 -- a part that is not empty begins with the byte at its start
 pub part-cons : (a e : ℕ) (s : List ℕ) → a < e → a < length s → part a e s ≡ getD s a 0 ∷ part (a + 1) e s
@@ -118,6 +131,12 @@ part-none a e s h = let k : e - a ≡ 0 = omega arith in rw k
 pub value-none : (n : ℕ) → value n [] ≡ n
 unfolding value
 value-none n = refl
+
+-- two runs: the second is read behind the number of the first
+pub value-join : (n : ℕ) (s t : List ℕ) → value n (s ++ t) ≡ value (value n s) t
+unfolding value
+value-join n [] t = refl
+value-join n (b ∷ s) t = value-join (n * 10 + (b - 48)) s t
 
 -- ---- what digits alone make: below ten to their count
 

@@ -3,7 +3,6 @@ ghost use mathlib.Core.Path.{_≡_};
 ghost use mathlib.Core.List.{_++_};
 ghost use Prim.Native.Nat.{_≤_, _+_, _-_};
 ghost use lib.ListN.{length, drop};
-ghost use lib.Seq.{paste};
 ghost use Rattle.numbers.specs.Rounding.{fittedTo};
 ghost use Rattle.numerals.specs.Runs.{part, lead, rest, value};
 ghost use Rattle.numerals.specs.Whole.{numberOf};
@@ -75,31 +74,13 @@ fn power_at(s: &[u8], at: usize) -> Power
     Power::NoPower
 }
 
-// d with s from a up to e written over it from k on.
-fn copied(d: [u8; 12], k: usize, s: &[u8], a: usize, e: usize) -> [u8; 12]
-    requires { ⌜ (a ≤ e) × (e ≤ length (now s)) × (k + (e - a) ≤ 12) ⌝ }
-    ensures { λ r. ⌜ r ≡ paste d k (drop a (now (s .entry))) (e - a) ⌝ }
-{
-    let mut r = d;
-    let mut i: usize = 0;
-    let n = e - a;
-    while i < n {
-        r[k + i] = s[a + i];
-        i += 1;
-    }
-    r
-}
-
 // The number that the digits from a up to p and from b up to q make, up to twelve of them.
 fn gathered(s: &[u8], a: usize, p: usize, b: usize, q: usize) -> u64
     requires { ⌜ (a ≤ p) × (p ≤ b) × (b ≤ q) × (q ≤ length (now s)) × (p - a + (q - b) ≤ 12) ⌝ }
     ensures { λ r. ⌜ r ≡ value 0 (part a p (now (s .entry)) ++ part b q (now (s .entry))) ⌝ }
 {
-    let w = p - a;
-    let zeros = [0u8; 12];
-    let whole = copied(zeros, 0, s, a, p);
-    let digits = copied(whole, w, s, b, q);
-    value(&digits, 0, w + (q - b))
+    let whole = value(0, s, a, p);
+    value(whole, s, b, q)
 }
 
 // The number n times ten to the x as a threshold.
@@ -138,8 +119,9 @@ fn digits_from(s: &[u8], a: usize) -> ThresholdNumeral
 {
     let p = run(s, a);
     if is_at(s, p, b'.') {
-        let q = run(s, p + 1);
-        return compose(s, a, p, p + 1, q);
+        let b = p + 1;
+        let q = run(s, b);
+        return compose(s, a, p, b, q);
     }
     compose(s, a, p, p, p)
 }

@@ -51,12 +51,12 @@ fn digit(b: u8) -> u64
     if b < 48 { 0 } else { (b - 48) as u64 }
 }
 
-// The number that the digits from a up to e make.
-pub(crate) fn value(s: &[u8], a: usize, e: usize) -> u64
-    requires { ⌜ (a ≤ e) × (e ≤ length (now s)) × (e - a ≤ 12) ⌝ }
-    ensures { λ r. ⌜ (r ≡ value 0 (part a e (now (s .entry)))) × (r + 23 ≤ 23 * 10 ^ (e - a)) ⌝ }
+// The number that the digits from a up to e make behind those of m.
+pub(crate) fn value(m: u64, s: &[u8], a: usize, e: usize) -> u64
+    requires { ⌜ (a ≤ e) × (e ≤ length (now s)) × ((m + 23) * 10 ^ (e - a) ≤ 23 * 10 ^ 12) ⌝ }
+    ensures { λ r. ⌜ (r ≡ value m (part a e (now (s .entry)))) × (r + 23 ≤ (m + 23) * 10 ^ (e - a)) ⌝ }
 {
-    let mut n: u64 = 0;
+    let mut n = m;
     let mut i = a;
     while i < e {
         n = n * 10 + digit(s[i]);

@@ -25,7 +25,7 @@ pub(crate) fn number(s: &[u8], at: usize, most: usize) -> Numeral
     let all = e == s.len();
     let few = (1 <= k) & (k <= most);
     if all & few {
-        return Numeral::Number(value(s, at, e) as u32);
+        return Numeral::Number(value(0, s, at, e) as u32);
     }
     Numeral::NoNumber
 }
@@ -77,7 +77,7 @@ pub fn read_factor(s: &[u8], start: usize, end: usize) -> Numeral
     let p = run(t, 0);
     let few = (1 <= p) & (p <= 2);
     if few {
-        return behind(value(t, 0, p) as u32, t, p);
+        return behind(value(0, t, 0, p) as u32, t, p);
     }
     Numeral::NoNumber
 }

@@ -1,7 +1,8 @@
 -- `exponential::digits_from`: the run of digits, and where a point stands behind it the run behind the point.
-use Prim.Native.Nat.{_+_}
+use Prim.Native.Nat.{_+_, _<_}
 use mathlib.Core.Path.{sym, _∙_}
 use Prim.Native.Char.{code}
+use lib.ListN.{length}
 use borrow.Author.Needs.{needs}
 use native.Mathlib.Omega.{arith}
 use Rattle.numerals.proofs.DigitRuns.{head-in, run-in}
@@ -9,30 +10,27 @@ use Rattle.numerals.proofs.Composing.{fraction-there, fraction-not}
 use Rattle.numerals.proofs.exponential.digits_from.Statement.{statement}
 use Rattle.numerals.proofs.exponential.digits_from.Tie as tie
 
+-- a point that is there has a place
+point-in : (c : tie.Then1) → c .before .before .run .result < length (c .before .before .before .before .args .s .now)
+point-in c = head-in (code ".") _ _ (sym (c .before .is-at .ensures) ∙ c .if1 .taken)
+
 run-requires : tie.Need-run-requires
 run-requires c κs = search needs
 
 is-at-requires : tie.Need-is-at-requires
 is-at-requires c κs = search needs
 
-add-run : tie.Need-add-run
-add-run c =
-    let a = c .before .before .before .before .args in
-    omega (arith, head-in (code ".") (c .before .before .run .result) (a .s .now) (sym (c .before .is-at .ensures) ∙ c .if1 .taken))
+add-b : tie.Need-add-b
+add-b c = omega (arith, point-in c)
 
 run-requires-2 : tie.Need-run-requires-2
-run-requires-2 c κs =
-    let a = c .before .before .before .before .args in
-    omega (arith, head-in (code ".") (c .before .before .run .result) (a .s .now) (sym (c .before .is-at .ensures) ∙ c .if1 .taken))
-
-add-compose : tie.Need-add-compose
-add-compose c = search needs
+run-requires-2 c κs = omega (arith, point-in c)
 
 compose-requires : tie.Need-compose-requires
 compose-requires c κs =
     let p = c .before .before .before .run in
     let a = c .before .before .before .before .before .args in
-    let i = head-in (code ".") (p .result) (a .s .now) (sym (c .before .before .is-at .ensures) ∙ c .before .if1 .taken) in
+    let i = point-in (c .before) in
     omega (arith, p .ensures, c .run2 .ensures, run-in (a .s .now) (p .result + 1) (omega arith))
 
 returns : tie.Need-returns
@@ -62,9 +60,8 @@ digits-from-spec =
     (tie.spec
     run-requires
     is-at-requires
-    add-run
+    add-b
     run-requires-2
-    add-compose
     compose-requires
     returns
     compose-requires-2

@@ -9,7 +9,7 @@ use native.Mathlib.Omega.{arith}
 use Rattle.ground.proofs.Cases.{range-high}
 use Rattle.numerals.specs.Runs.{lead, rest, lengthIn, value}
 use Rattle.numerals.specs.declared.whole.Numeral.the-variants.{Number}
-use Rattle.numerals.proofs.DigitRuns.{run-in, run-lead, run-all, bound-below}
+use Rattle.numerals.proofs.DigitRuns.{run-in, run-lead, run-all, bound-below, bound-room}
 use Rattle.numerals.proofs.Wholes.{number-taken, number-left}
 use Rattle.numerals.proofs.whole.number.Statement.{statement}
 use Rattle.numerals.proofs.whole.number.Tie as tie
@@ -33,12 +33,13 @@ sub-k c = search needs
 value-requires : tie.Need-value-requires
 value-requires c κs =
     let a = c .before .before .before .args in
-    omega (arith, c .before .run .ensures, run-in (a .s .now) (a .at) (omega arith), few c)
+    let room = bound-room 0 0 (c .before .run .result - a .at) (omega arith) (omega (arith, few c)) in
+    omega (arith, c .before .run .ensures, run-in (a .s .now) (a .at) (omega arith), room)
 
 cast-t12 : tie.Need-cast-t12
 cast-t12 c =
     let b = c .before in
-    omega (arith, bound-below (c .value .result) (b .before .run .result - b .before .before .before .args .at) 3 (c .value .ensures .1) (few b))
+    omega (arith, bound-below (c .value .result) 3 (b .before .run .result - b .before .before .before .args .at) (c .value .ensures .1) (few b))
 
 returns : tie.Need-returns
 returns c =

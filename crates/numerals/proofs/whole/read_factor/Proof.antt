@@ -9,7 +9,7 @@ use native.Mathlib.Omega.{arith}
 use Rattle.ground.proofs.Cases.{in-range}
 use Rattle.numerals.specs.Runs.{lead, lengthIn, value}
 use Rattle.numerals.specs.Whole.{behindPoint, factorOf}
-use Rattle.numerals.proofs.DigitRuns.{run-in, run-lead, run-rest, bound-below}
+use Rattle.numerals.proofs.DigitRuns.{run-in, run-lead, run-rest, bound-below, bound-room}
 use Rattle.numerals.proofs.Wholes.{factor-taken, factor-left}
 use Rattle.numerals.proofs.whole.read_factor.Statement.{statement}
 use Rattle.numerals.proofs.whole.read_factor.Tie as tie
@@ -23,7 +23,7 @@ few : (c : tie.Then1) → c .before .run .result - 0 ≤ 2
 few c = omega (arith, in-range 1 2 (c .before .run .result) (c .if1 .taken))
 
 small : (c : tie.After-value) → c .value .result ≤ 2277
-small c = omega (arith, bound-below (c .value .result) (c .before .before .run .result - 0) 2 (c .value .ensures .1) (few (c .before)))
+small c = omega (arith, bound-below (c .value .result) 2 (c .before .before .run .result - 0) (c .value .ensures .1) (few (c .before)))
 
 part-requires : tie.Need-part-requires
 part-requires c κs = search needs
@@ -32,7 +32,9 @@ run-requires : tie.Need-run-requires
 run-requires c κs = search needs
 
 value-requires : tie.Need-value-requires
-value-requires c κs = omega (arith, c .before .run .ensures, run-in (c .before .before .part .result .now) 0 (omega arith), few c)
+value-requires c κs =
+    let room = bound-room 0 0 (c .before .run .result - 0) (omega arith) (omega (arith, few c)) in
+    omega (arith, c .before .run .ensures, run-in (c .before .before .part .result .now) 0 (omega arith), room)
 
 cast-behind : tie.Need-cast-behind
 cast-behind c = omega (arith, small c)

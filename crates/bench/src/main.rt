@@ -1,4 +1,5 @@
 // The bench program: frames on standard input, one to a line, and an output line for each on standard output.
+#![tactic(auto)]
 ghost use Rattle.std.specs.Prelude.{◌≡◌, ◌≤◌, length, take, drop};
 ghost use Rattle.tpg.specs.Steps.{over};
 ghost use Rattle.frames.specs.Frames.{longest_line};
@@ -15,7 +16,7 @@ use tpg::State;
 const KEPT: usize = 2 * LONGEST_FRAME + 1;
 
 // The box, where the first line that is not answered begins, and how much of the output is still to be written.
-#[derive(Drop)]
+#[derive(Clone, Copy)]
 struct BlockOutcome {
     pub state: State,
     pub from: usize,

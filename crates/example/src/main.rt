@@ -1,4 +1,5 @@
 // A box in use: all that it sends goes to standard output.
+#![tactic(auto)]
 use frames::FrameOutcome;
 use libc::STDOUT_FILENO;
 use lines::judging::judge;

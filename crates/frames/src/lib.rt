@@ -1,4 +1,5 @@
 // The frames of the bench: one input line to one output line.
+#![tactic(auto)]
 ghost use Rattle.std.specs.Prelude.{◌≡◌, length};
 ghost use Rattle.tpg.specs.Steps.{over};
 ghost use Rattle.frames.specs.Frames.{answer_call, answer_line};
@@ -20,7 +21,7 @@ pub const LONGEST_FRAME: usize = 61;
 const SHORT_OUTPUT: u8 = 3;
 
 // The answer number of a frame, the box after it, and how many bytes stand in the output.
-#[derive(Drop)]
+#[derive(Clone, Copy)]
 pub struct FrameOutcome {
     pub number: u8,
     pub state: State,

@@ -5,7 +5,7 @@ ghost use Rattle.gauges.specs.Readings.{no_reading, within_limits};
 use numbers::value::Value;
 
 // The kind of gauge, its status, and its value in hPa.
-#[derive(Drop)]
+#[derive(Clone, Copy)]
 pub struct Reading {
     pub kind: u8,
     pub status: u8,

@@ -12,7 +12,7 @@ use text::digits::whole;
 use text::{append, put};
 
 // A reading as it is shown: its status, and its value in the unit chosen.
-#[derive(Drop)]
+#[derive(Clone, Copy)]
 pub struct Shown {
     pub status: u8,
     pub value: Value,

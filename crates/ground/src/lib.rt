@@ -1,1 +1,2 @@
 // Laws and definitions only: what every floor says of members, tests, tables and ranges. No function stands here.
+#![tactic(auto)]

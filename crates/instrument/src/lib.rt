@@ -1,4 +1,5 @@
 // What all hosts share of a box: its model and serial number, its settings and saved set, its readings and its switches.
+#![tactic(auto)]
 use gauges::reading::Reading;
 use settings::Settings;
 use settings::model::Model;
@@ -7,7 +8,7 @@ pub mod events;
 pub mod limits;
 pub mod replies;
 
-#[derive(Drop)]
+#[derive(Clone, Copy)]
 pub struct Instrument {
     pub model: Model,
     pub serial: u32,

@@ -7,7 +7,7 @@ use settings::mnemonic::{Mnemonic, Replying};
 use settings::rows::{Row, plain};
 
 // The digit of the error word that a fault sets.
-#[derive(Drop)]
+#[derive(Clone, Copy)]
 pub enum Fault {
     Syntax,
     Parameter,
@@ -15,13 +15,13 @@ pub enum Fault {
 }
 
 // A field that was read: its cell, or its fault, of form or of value.
-#[derive(Drop)]
+#[derive(Clone, Copy)]
 pub enum Field {
     Held(Threshold),
     Faulty(Fault),
 }
 
-#[derive(Drop)]
+#[derive(Clone, Copy)]
 pub enum Verdict {
     Asks(Replying),
     Writes(Mnemonic, Row),

@@ -7,7 +7,7 @@ use crate::verdict::Fault;
 use text::append;
 use text::digits::binary;
 
-#[derive(Drop)]
+#[derive(Clone, Copy)]
 pub struct Word {
     pub hardware: bool,
     pub parameter: bool,

@@ -5,7 +5,7 @@ ghost use Rattle.numbers.specs.Rounding.{climb, nearest, rounded};
 
 use crate::threshold::Threshold;
 
-#[derive(Drop)]
+#[derive(Clone, Copy)]
 struct Climbed {
     pub size: u64,
     pub tens: u32,

@@ -7,14 +7,14 @@ use crate::rounding::rounded;
 use crate::value::{Ratio, Value};
 
 // Its five digits without the point, and its power of ten.
-#[derive(Drop)]
+#[derive(Clone, Copy)]
 pub struct Threshold {
     pub mantissa: u32,
     pub exponent: i32,
 }
 
 // A number as a threshold, or none that holds it.
-#[derive(Drop)]
+#[derive(Clone, Copy)]
 pub enum Fitted {
     Fits(Threshold),
     Outside,

@@ -8,14 +8,14 @@ use crate::signs::{magnitude, with_sign};
 use crate::threshold::Threshold;
 
 // d.dddd times a power of ten, of either sign; zero has exponent 0.
-#[derive(Drop)]
+#[derive(Clone, Copy)]
 pub struct Value {
     pub mantissa: i32,
     pub exponent: i32,
 }
 
 // An exact factor, over / under.
-#[derive(Drop)]
+#[derive(Clone, Copy)]
 pub struct Ratio {
     pub over: u64,
     pub under: u64,

@@ -10,7 +10,7 @@ use crate::whole::{Numeral, number};
 use numbers::threshold::{Fitted, Threshold};
 
 // What a threshold reads as.
-#[derive(Drop)]
+#[derive(Clone, Copy)]
 pub enum ThresholdNumeral {
     Within(Threshold),
     NoThreshold,
@@ -18,7 +18,7 @@ pub enum ThresholdNumeral {
 }
 
 // The power of ten that a threshold ends with.
-#[derive(Drop)]
+#[derive(Clone, Copy)]
 enum Power {
     Ten(i32),
     NoPower,

@@ -6,7 +6,7 @@ ghost use Rattle.numerals.specs.Whole.{number_of, whole_of, behind_point, factor
 use crate::runs::{is_at, part, run, value};
 
 // What a whole number or a factor reads as; a factor counts thousandths.
-#[derive(Drop)]
+#[derive(Clone, Copy)]
 pub enum Numeral {
     Number(u32),
     NoNumber,

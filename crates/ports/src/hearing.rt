@@ -12,7 +12,7 @@ use settings::mnemonic::{Mnemonic, Query, Replying};
 use settings::model::Model;
 use text::control::{CR, ENQ, ETX, LEAST_CHARACTER, LF, MOST_CHARACTER, SPACE};
 
-#[derive(Drop)]
+#[derive(Clone, Copy)]
 enum ByteKind {
     Cr,
     // an LF that is not straight after a CR, and a space

@@ -1,4 +1,5 @@
 // What one host owns of a box: its line, its selection, its error word and its stream.
+#![tactic(auto)]
 use lines::verdict::Verdict;
 use lines::word::Word;
 use settings::mnemonic::Replying;
@@ -10,13 +11,13 @@ pub mod stream;
 pub mod typing;
 
 // The mnemonic that an ENQ is answered with.
-#[derive(Drop)]
+#[derive(Clone, Copy)]
 pub enum Selection {
     Nothing,
     Chosen(Replying),
 }
 
-#[derive(Drop)]
+#[derive(Clone, Copy)]
 pub struct Port {
     pub line: [u8; 80],
     pub len: usize,
@@ -38,7 +39,7 @@ impl Port {
 }
 
 // What a byte of the host makes the box do.
-#[derive(Drop)]
+#[derive(Clone, Copy)]
 pub enum Event {
     Silent,
     // a line has ended
@@ -47,13 +48,13 @@ pub enum Event {
     Reply(Replying, Word),
 }
 
-#[derive(Drop)]
+#[derive(Clone, Copy)]
 pub struct Heard {
     pub port: Port,
     pub event: Event,
 }
 
-#[derive(Drop)]
+#[derive(Clone, Copy)]
 pub struct Ticked {
     pub port: Port,
     // a line of the stream is due

@@ -6,7 +6,7 @@ ghost use Rattle.ports.specs.Walk.{settled, is_typed, typing, typed_all};
 use crate::Port;
 use text::control::{MOST_CHARACTER, SPACE};
 
-#[derive(Drop)]
+#[derive(Clone, Copy)]
 pub struct Typed {
     pub port: Port,
     // the place of the first byte that was not typed

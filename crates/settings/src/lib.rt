@@ -1,4 +1,5 @@
 // What a box is set to: models, mnemonics, the table of their fields and defaults, settings and their limits, and storing.
+#![tactic(auto)]
 use numbers::threshold::Threshold;
 
 pub mod kinds;
@@ -9,7 +10,7 @@ pub mod rows;
 pub mod table;
 
 // One switching function.
-#[derive(Drop)]
+#[derive(Clone, Copy)]
 pub struct Switching {
     pub assignment: u32,
     pub lower: Threshold,
@@ -17,14 +18,14 @@ pub struct Switching {
 }
 
 // A number, or one for each channel.
-#[derive(Drop)]
+#[derive(Clone, Copy)]
 pub struct Pair {
     pub first: u32,
     pub second: u32,
 }
 
 // The settings of a box.
-#[derive(Drop)]
+#[derive(Clone, Copy)]
 pub struct Settings {
     pub unit: u32,
     // in thousandths

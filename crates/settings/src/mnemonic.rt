@@ -8,7 +8,7 @@ ghost use Rattle.settings.specs.declared.mnemonic.Mnemonic.TheVariants.{OfReplyi
 use crate::model::Model;
 
 // Those of the sheets, each of which holds settings.
-#[derive(Drop)]
+#[derive(Clone, Copy)]
 pub enum Setting {
     Uni,
     Cal,
@@ -19,7 +19,7 @@ pub enum Setting {
 }
 
 // Those that take no field; PR1 and PR2 from 0 on.
-#[derive(Drop)]
+#[derive(Clone, Copy)]
 pub enum Query {
     Sps,
     Pr(u8),
@@ -31,7 +31,7 @@ pub enum Query {
 }
 
 // Those that have a reply.
-#[derive(Drop)]
+#[derive(Clone, Copy)]
 pub enum Replying {
     OfSetting(Setting),
     // CF1 and CF2 from 0 on
@@ -39,7 +39,7 @@ pub enum Replying {
     OfQuery(Query),
 }
 
-#[derive(Drop)]
+#[derive(Clone, Copy)]
 pub enum Mnemonic {
     OfReplying(Replying),
     Com,
@@ -87,7 +87,7 @@ const OTHERS: [Mnemonic; 12] = [
 ];
 
 // What three letters name.
-#[derive(Drop)]
+#[derive(Clone, Copy)]
 pub enum Named {
     Known(Mnemonic),
     Unknown,

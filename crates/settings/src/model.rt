@@ -5,7 +5,7 @@ ghost use Rattle.settings.specs.Models.{model_of, is_older, channels, names, pow
 
 use text::append;
 
-#[derive(Drop)]
+#[derive(Clone, Copy)]
 pub enum Model {
     Tpg361,
     Tpg362,
@@ -13,7 +13,7 @@ pub enum Model {
 }
 
 // The model of a number.
-#[derive(Drop)]
+#[derive(Clone, Copy)]
 pub enum Numbered {
     One(Model),
     NoModel,

@@ -9,7 +9,7 @@ use crate::{Pair, Settings, Switching};
 use numbers::threshold::Threshold;
 
 // Up to three cells; a whole number or a factor is a cell with exponent 0.
-#[derive(Drop)]
+#[derive(Clone, Copy)]
 pub struct Row {
     pub first: Threshold,
     pub second: Threshold,

@@ -12,14 +12,14 @@ use crate::{Pair, Settings, Switching};
 use numbers::threshold::Threshold;
 
 // From least to most; above it, up to paired, stands what needs a second channel that the model lacks.
-#[derive(Drop)]
+#[derive(Clone, Copy)]
 pub struct Limits {
     pub least: u32,
     pub most: u32,
     pub paired: u32,
 }
 
-#[derive(Drop)]
+#[derive(Clone, Copy)]
 pub enum Kind {
     OfWhole(Limits),
     // in thousandths
@@ -28,7 +28,7 @@ pub enum Kind {
 }
 
 // How many fields, up to three; the kind of the first, and that of the others.
-#[derive(Drop)]
+#[derive(Clone, Copy)]
 pub struct Fields {
     pub count: usize,
     pub first: Kind,
@@ -36,7 +36,7 @@ pub struct Fields {
 }
 
 // What a model has of a row of numbers: how many fields, of which kind, and the defaults of two cells.
-#[derive(Drop)]
+#[derive(Clone, Copy)]
 pub struct Column {
     pub count: usize,
     pub kind: Kind,
@@ -45,7 +45,7 @@ pub struct Column {
 }
 
 // A row of the table.
-#[derive(Drop)]
+#[derive(Clone, Copy)]
 pub struct Entry {
     pub name: [u8; 3],
     pub fields: Fields,

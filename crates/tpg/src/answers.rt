@@ -7,7 +7,7 @@ use crate::State;
 use instrument::Instrument;
 use ports::Port;
 
-#[derive(Drop)]
+#[derive(Clone, Copy)]
 pub enum Answer {
     Accepted,
     BrokenState,
@@ -33,7 +33,7 @@ impl Answer {
     }
 }
 
-#[derive(Drop)]
+#[derive(Clone, Copy)]
 pub struct Outcome {
     pub answer: Answer,
     pub state: State,

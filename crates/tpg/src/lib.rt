@@ -1,4 +1,5 @@
 // The box: its state, and the calls that take it by value and hand it back.
+#![tactic(auto)]
 ghost use Rattle.std.specs.Prelude.{◌≡◌};
 ghost use Rattle.tpg.specs.States.{state_within, started_box};
 
@@ -11,7 +12,7 @@ pub mod answers;
 pub mod calls;
 pub mod host;
 
-#[derive(Drop)]
+#[derive(Clone, Copy)]
 pub struct State {
     pub instrument: Instrument,
     pub port: Port,

@@ -1,0 +1,7 @@
+-- The text of the reading at that place, shown in the unit chosen.
+use mathlib.Core.Path.{◌∙◌}
+use borrow.Author.Rules.{rules}
+use Rattle.instrument.proofs.replies.write_reading.Goals as goal
+
+pub returns : goal.returns
+returns c = c.write_shown.ensures ∙ rw (c.shown.ensures, c.reading_at-r.ensures)

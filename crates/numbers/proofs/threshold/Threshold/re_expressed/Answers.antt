@@ -1,0 +1,6 @@
+-- One multiplication by the factor between the two units.
+use borrow.Author.Rules.{rules}
+use Rattle.numbers.proofs.threshold.Threshold.re_expressed.Goals as goal
+
+pub returns : goal.returns
+returns c = rw (c.multiplied.ensures, c.factor_between.ensures)

@@ -1,0 +1,13 @@
+-- Both magnitudes are `nat_abs` (`magnitude`).
+use mir.Syntax.{w32}
+use mir.Val.{SFits}
+use mir.Facts.{to_z-of_z}
+use borrow.Author.Rules.{rules}
+use Rattle.numbers.proofs.value.Value.is_zero.Goals as goal
+
+pub returns : goal.returns
+returns c =
+    let v = c.args.self in
+    let f : SFits w32 v.mantissa = search rules in
+    let g : SFits w32 v.exponent = search rules in
+    rw (c.magnitude-m.ensures, c.magnitude-e.ensures, to_z-of_z f, to_z-of_z g)

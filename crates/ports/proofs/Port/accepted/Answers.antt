@@ -1,0 +1,6 @@
+-- What the mnemonic selects, with the error word as it was.
+use borrow.Author.Rules.{rules}
+use Rattle.ports.proofs.Port.accepted.Goals as goal
+
+pub returns : goal.returns
+returns c = rw (c.with_choice.ensures, c.selects.ensures)

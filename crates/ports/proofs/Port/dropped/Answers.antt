@@ -1,0 +1,6 @@
+-- The line emptied, no selection, and the error word that is given.
+use borrow.Author.Rules.{rules}
+use Rattle.ports.proofs.Port.dropped.Goals as goal
+
+pub returns : goal.returns
+returns c = rw (c.with_choice.ensures, c.emptied.ensures)

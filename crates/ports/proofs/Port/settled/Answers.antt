@@ -1,0 +1,6 @@
+-- The mark cleared, then the stream stopped.
+use borrow.Author.Rules.{rules}
+use Rattle.ports.proofs.Port.settled.Goals as goal
+
+pub returns : goal.returns
+returns c = rw (c.stopped.ensures, c.marked.ensures)

@@ -1,0 +1,6 @@
+-- The tests are the definition's, over what the intervals are.
+use borrow.Author.Rules.{rules}
+use Rattle.ports.proofs.Port.stream_is_within.Goals as goal
+
+pub returns : goal.returns
+returns c = rw (c.interval_of-3.ensures, c.interval_of-2.ensures, c.interval_of.ensures)

@@ -1,0 +1,17 @@
+-- What was found up to the place i, with the test from i to b, is the test from a to b.
+use Prim.Native.Nat.{◌-◌}
+use mathlib.Core.Path.{◌≡◌, refl, sym, ◌∙◌}
+use mathlib.Core.Bool.{◌&&◌}
+use lib.ListN.{length, take, drop}
+use borrow.Author.Rules.{rules}
+use native.Mathlib.Omega.{arith}
+use Rattle.ground.specs.Members.{every}
+use Rattle.ground.specs.Ranges.{in_range}
+use Rattle.ground.proofs.Ranges.{range_next, range_end}
+use Rattle.ports.proofs.limits.all_within.Given as goal
+
+abbrev pub invariant-loop-i : goal.invariant-loop-i
+invariant-loop-i l = l.all && every (in_range l.low l.high) (take (l.b - l.i) (drop l.i l.line)) ≡ every (in_range l.low l.high) (take (l.b - l.a) (drop l.a l.line))
+
+abbrev pub decreases-loop-i : goal.decreases-loop-i
+decreases-loop-i l = l.b - l.i

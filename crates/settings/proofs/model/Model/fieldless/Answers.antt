@@ -1,0 +1,6 @@
+-- No field: a row of no numbers.
+use borrow.Author.Rules.{rules}
+use Rattle.settings.proofs.model.Model.fieldless.Goals as goal
+
+pub returns : goal.returns
+returns c = rw (c.of_numbers.ensures, c.whole.ensures)

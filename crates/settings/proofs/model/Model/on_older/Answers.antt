@@ -1,0 +1,6 @@
+-- The other units lack it.
+use borrow.Author.Rules.{rules}
+use Rattle.settings.proofs.model.Model.on_older.Goals as goal
+
+pub returns : goal.returns
+returns c = rw (c.on_both.ensures, c.lacking.ensures)

@@ -1,0 +1,6 @@
+-- As many numbers as channels.
+use borrow.Author.Rules.{rules}
+use Rattle.settings.proofs.model.Model.per_channel.Goals as goal
+
+pub returns : goal.returns
+returns c = rw (c.whole.ensures, c.channels.ensures)

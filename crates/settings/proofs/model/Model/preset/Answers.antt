@@ -1,0 +1,6 @@
+-- The numbers of the default of a row.
+use borrow.Author.Rules.{rules}
+use Rattle.settings.proofs.model.Model.preset.Goals as goal
+
+pub returns : goal.returns
+returns c = rw c.setting_entry-e.ensures

@@ -1,0 +1,6 @@
+-- One whole number.
+use borrow.Author.Rules.{rules}
+use Rattle.settings.proofs.model.Model.single.Goals as goal
+
+pub returns : goal.returns
+returns c = rw c.whole.ensures

@@ -1,0 +1,6 @@
+-- The count of its fields.
+use borrow.Author.Rules.{rules}
+use Rattle.settings.proofs.model.Model.takes.Goals as goal
+
+pub returns : goal.returns
+returns c = rw c.setting_entry-e.ensures

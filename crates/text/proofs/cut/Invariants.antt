@@ -1,0 +1,15 @@
+-- `text::cut`: the bytes put, and those still to put, are all of s.
+use Prim.Native.Nat.{◌≤◌, ◌-◌, ◌+◌}
+use mathlib.Core.Path.{◌≡◌, refl, sym, ap, ◌∙◌}
+use lib.ListN.{length, drop}
+use borrow.Author.Rules.{rules}
+use native.Mathlib.Omega.{arith}
+use Rattle.text.specs.Page.{page, puts}
+use Rattle.text.proofs.Pages.{puts_next, puts_done}
+use Rattle.text.proofs.cut.Given as goal
+
+abbrev pub invariant-loop-i : goal.invariant-loop-i
+invariant-loop-i l = (l.i ≤ length l.s) × (length l.out ≡ length l.initial.out) × (puts (page l.out l.to) (drop l.i l.s) ≡ puts (page l.initial.out l.at) l.s)
+
+abbrev pub decreases-loop-i : goal.decreases-loop-i
+decreases-loop-i l = length l.s - l.i

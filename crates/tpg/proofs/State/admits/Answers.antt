@@ -1,0 +1,8 @@
+-- The callee tells whether the state is within; the test of the room is that of `admits`.
+use borrow.Author.Rules.{rules}
+use Rattle.tpg.specs.Calls.{admits}
+use Rattle.tpg.proofs.State.admits.Goals as goal
+
+pub returns : goal.returns
+unfolding admits
+returns c = rw c.is_within.ensures

@@ -1,0 +1,19 @@
+-- The line of the stream is made once, since ticks change the port alone.
+use mathlib.Core.Path.{◌≡◌, ap, sym, ◌∙◌}
+use native.Mathlib.Nat.{min-eq_left}
+use Prim.Native.Nat.{◌-◌, ◌≤◌}
+use native.Mathlib.Omega.{arith}
+use lib.ListN.{length, take, length-take}
+use borrow.Author.Rules.{rules}
+use Rattle.text.specs.Page.{page, puts}
+use Rattle.instrument.specs.Replies.{stream_text}
+use Rattle.instrument.proofs.Lengths.{stream_length}
+use Rattle.tpg.proofs.Laying.{copied, fronted}
+use Rattle.tpg.proofs.Ticking.{Counting, start, due, idle, ended, length_kept}
+use Rattle.tpg.proofs.State.advance.Given as goal
+
+abbrev pub invariant-loop-i : goal.invariant-loop-i
+invariant-loop-i l = (l.n ≤ 64) × (length l.line ≡ 64) × (take l.n l.line ≡ stream_text l.instrument) × Counting (record { l.instrument = l.instrument; l.port = l.initial.port }) l.count l.initial.out l.port l.out l.i l.written
+
+abbrev pub decreases-loop-i : goal.decreases-loop-i
+decreases-loop-i l = l.count - l.i

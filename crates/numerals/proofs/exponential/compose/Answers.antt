@@ -1,8 +1,7 @@
 -- `exponential::compose`: as many digits as are let in, a power behind them, and then what their number is fitted to.
--- the power, moved down by the digits behind the point
 use Prim.Native.Nat.{ℕ, ◌+◌, ◌-◌, ◌≤◌, ◌<◌}
 use mathlib.Core.Path.{◌≡◌, sym, ap, ap₂, ◌∙◌, subst}
-use mathlib.Core.List.{◌++◌}
+use mathlib.Core.List.{List, ◌++◌}
 use mathlib.Core.Bool.{true}
 use lib.ListN.{length, drop}
 use lib.IntN.{ℤ, pos, nat_abs, ◌-ℤ◌}
@@ -21,18 +20,23 @@ use Rattle.numerals.proofs.Powers.{TwoDigits, power_two}
 use Rattle.numerals.proofs.DigitRuns.{part_length}
 use Rattle.numerals.proofs.Composing.{count_runs, composed_taken, composed_left}
 use Rattle.numerals.proofs.exponential.compose.Goals as goal
-use Rattle.numerals.proofs.exponential.compose.Goals.{After-shared_slice_known-1, In-Ten, Then-few}
+use Rattle.numerals.proofs.exponential.compose.Goals.{In-Ten}
+
+-- the power, moved down by the digits behind the point
+module _ (e : ℤ) (k : ℕ) (h : nat_abs e < 100) (l : k ≤ 12) where
+  moved_read : to_z w32 (of_z w32 e) -ℤ to_z w32 k ≡ e -ℤ pos k
+  moved_read = rw (to_z-of_z (small e (omega arith)), to_z_pos w32 {n = k} (omega arith))
+
+  moved_is : to_z w32 (of_z w32 (to_z w32 (of_z w32 e) -ℤ to_z w32 k)) ≡ e -ℤ pos k
+  moved_is = rw moved_read (to_z-of_z (small (e -ℤ pos k) (omega (arith, abs_minus e (pos k)))))
 
 -- the digits that the code lets in are those that the definition does
-count : (c : goal.After-shared_slice_known-1) → let a = c.args in
-    length (part a.a a.p a.s.now ++ part a.b a.q a.s.now) ≡ a.p - a.a + (a.q - a.b)
-count c = let a = c.args in count_runs a.s.now a.a a.p a.b a.q (omega arith) (omega arith) (omega arith) (omega arith)
+module _ (s : List ℕ) (a p b q : ℕ) (i : a ≤ p) (j : p ≤ b) (k : b ≤ q) (l : q ≤ length s) where
+  let_in : in_range 1 12 (p - a + (q - b)) ≡ length_in 1 12 (part a p s ++ part b q s)
+  let_in = ap (in_range 1 12) (sym (count_runs s a p b q i j k l))
 
-let-in : (c : goal.Then-few) → let a = c.args in length_in 1 12 (part a.a a.p a.s.now ++ part a.b a.q a.s.now) ≡ true
-let-in c = ap (in_range 1 12) (count c.before) ∙ c.if-few.true
-
-few : (c : goal.Then-few) → let a = c.args in a.p - a.a + (a.q - a.b) ≤ 12
-few c = (in_range_lem 1 12 _ (ap (in_range 1 12) (sym (count c.before)) ∙ let-in c)).1
+few : (a p b q : ℕ) → in_range 1 12 (p - a + (q - b)) ≡ true → p - a + (q - b) ≤ 12
+few a p b q h = (in_range_lem 1 12 (p - a + (q - b)) h).1
 
 two : (c : goal.In-Ten) → nat_abs c.in-Ten.e < 100
 two c =
@@ -40,17 +44,17 @@ two c =
     subst TwoDigits (sym c.power_at-t.ensures ∙ c.in-Ten.is) (power_two (drop a.q a.s.now))
 
 pub gathered-requires : goal.gathered-requires
-gathered-requires c = omega (arith, few (goal.at.gathered-requires c).Then-few)
+gathered-requires c = let a = c.args in omega (arith, few a.a a.p a.b a.q c.if-few.true)
 
 pub overflow_cast-f : goal.overflow_cast-f
-overflow_cast-f c = small _ (omega (arith, few (goal.at.overflow_cast-f c).Then-few))
+overflow_cast-f c = let a = c.args in small _ (omega (arith, few a.a a.p a.b a.q c.if-few.true))
 
 pub overflow_sub-e : goal.overflow_sub-e
 overflow_sub-e c =
     let a = c.args in
     let e = c.in-Ten.e in
-    rw (moved-read e (a.q - a.b) (two (goal.at.overflow_sub-e c).In-Ten) (omega (arith, few (goal.at.overflow_sub-e c).Then-few)))
-    (small _ (omega (arith, two (goal.at.overflow_sub-e c).In-Ten, few (goal.at.overflow_sub-e c).Then-few, abs_minus e (pos (a.q - a.b)))))
+    rw (moved_read e (a.q - a.b) (two (goal.at.overflow_sub-e c).In-Ten) (omega (arith, few a.a a.p a.b a.q c.if-few.true)))
+    (small _ (omega (arith, two (goal.at.overflow_sub-e c).In-Ten, few a.a a.p a.b a.q c.if-few.true, abs_minus e (pos (a.q - a.b)))))
 
 pub returns-in-NoPower : goal.returns-in-NoPower
 returns-in-NoPower c =
@@ -58,7 +62,7 @@ returns-in-NoPower c =
     let whole = part a.a a.p a.s.now in
     let fraction = part a.b a.q a.s.now in
     ap (weighed (whole ++ fraction) (length fraction)) (sym c.in-NoPower.is ∙ c.power_at-t.ensures)
-    ∙ composed_taken whole fraction (drop a.q a.s.now) (let-in (goal.at.returns-in-NoPower c).Then-few)
+    ∙ composed_taken whole fraction (drop a.q a.s.now) (sym (let_in a.s.now a.a a.p a.b a.q (omega arith) (omega arith) (omega arith) (omega arith)) ∙ c.if-few.true)
 
 pub returns-in-Ten : goal.returns-in-Ten
 returns-in-Ten c =
@@ -70,11 +74,11 @@ returns-in-Ten c =
     let behind : length fraction ≡ a.q - a.b = part_length a.b a.q s (omega arith) (omega arith) in
     c.fitted_numeral.ensures
     ∙ ap₂ (λ (n : ℕ) (x : ℤ). fitted_numeral (fitted_to n x)) c.gathered.ensures
-    (moved-is e (a.q - a.b) (two (goal.at.returns-in-Ten c).In-Ten) (omega (arith, few (goal.at.returns-in-Ten c).Then-few)) ∙ ap (λ (j : ℕ). e -ℤ pos j) (sym behind))
+    (moved_is e (a.q - a.b) (two (goal.at.returns-in-Ten c).In-Ten) (omega (arith, few a.a a.p a.b a.q c.if-few.true)) ∙ ap (λ (j : ℕ). e -ℤ pos j) (sym behind))
     ∙ ap (weighed (whole ++ fraction) (length fraction)) (sym c.in-Ten.is ∙ c.power_at-t.ensures)
-    ∙ composed_taken whole fraction (drop a.q s) (let-in (goal.at.returns-in-Ten c).Then-few)
+    ∙ composed_taken whole fraction (drop a.q s) (sym (let_in a.s.now a.a a.p a.b a.q (omega arith) (omega arith) (omega arith) (omega arith)) ∙ c.if-few.true)
 
 pub returns : goal.returns
 returns c =
     let a = c.args in
-    composed_left (part a.a a.p a.s.now) (part a.b a.q a.s.now) (drop a.q a.s.now) (ap (in_range 1 12) (count (goal.at.returns c).After-shared_slice_known-1) ∙ c.if-few.false)
+    composed_left (part a.a a.p a.s.now) (part a.b a.q a.s.now) (drop a.q a.s.now) (sym (let_in a.s.now a.a a.p a.b a.q (omega arith) (omega arith) (omega arith) (omega arith)) ∙ c.if-few.false)

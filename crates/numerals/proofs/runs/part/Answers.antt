@@ -1,6 +1,5 @@
 -- `runs::part`: an end past the bytes is their end, and lends the same.
 use mathlib.Core.Path.{◌≡◌, sym, ap, ◌∙◌}
-use mathlib.Core.Logic.{⊎_elim}
 use Prim.Native.Nat.{ℕ, ◌≤◌}
 use lib.ListN.{length}
 use borrow.Author.Rules.{rules}
@@ -8,18 +7,17 @@ use native.Mathlib.Omega.{arith}
 use Rattle.numerals.specs.Runs.{part}
 use Rattle.numerals.proofs.DigitRuns.{part_rest, part_none}
 use Rattle.numerals.proofs.runs.part.Goals as goal
-use Rattle.numerals.proofs.runs.part.Goals.{Joined-end-e}
+use Rattle.numerals.proofs.runs.part.Goals.{Joined-end-e, then-end-e, else-end-e}
 
 end-in : (c : goal.Joined-end-e) → c.if-end-e.e ≤ length c.args.s.now
-end-in c = ⊎_elim (λ w. omega arith) (λ w. omega arith) c.if-end-e.branch
+end-in c = elim c.if-end-e.branch [ then-end-e w ↦ omega arith | else-end-e w ↦ omega arith ]
 
 -- the end that is lent to gives the part that was asked for
 same : (c : goal.Joined-end-e) → let a = c.args in part a.start c.if-end-e.e a.s.now ≡ part a.start a.end a.s.now
 same c =
     let a = c.args in
     let s = a.s.now in
-    ⊎_elim (λ w. ap (λ (e : ℕ). part a.start e s) w.1)
-    (λ w. part_rest a.start c.if-end-e.e s (omega arith) ∙ sym (part_rest a.start a.end s (omega arith))) c.if-end-e.branch
+    elim c.if-end-e.branch [ then-end-e w ↦ ap (λ (e : ℕ). part a.start e s) w.e-is | else-end-e w ↦ part_rest a.start c.if-end-e.e s (omega arith) ∙ sym (part_rest a.start a.end s (omega arith)) ]
 
 pub slice_bounds-result-end : goal.slice_bounds-result-end
 slice_bounds-result-end c = omega (arith, end-in (goal.at.slice_bounds-result-end c).Joined-end-e)

@@ -8,19 +8,19 @@ beside : (c : goal.After-is_within) → Beside c.args.self c.args.t c.is_number.
 beside c = search rules
 
 pub returns-then-m-le0 : goal.returns-then-m-le0
-returns-then-m-le0 c = nonpositive_above (beside (goal.at.returns-then-m-le0 c).After-is_within) c.if-is_number-is_within.taken c.if-m-le0.taken
+returns-then-m-le0 c = nonpositive_above (beside (goal.at.returns-then-m-le0 c).After-is_within) c.if-is_number-is_within.true c.if-m-le0.true
 
 pub overflow_cast-m : goal.overflow_cast-m
-overflow_cast-m c = positive_cast (beside (goal.at.overflow_cast-m c).After-is_within) c.if-is_number-is_within.taken c.if-m-le0.left
+overflow_cast-m c = positive_cast (beside (goal.at.overflow_cast-m c).After-is_within) c.if-is_number-is_within.true c.if-m-le0.false
 
 pub smaller-requires : goal.smaller-requires
 smaller-requires c =
-    let p = positive_digits (beside (goal.at.smaller-requires c).After-is_within) c.if-is_number-is_within.taken c.if-m-le0.left in
+    let p = positive_digits (beside (goal.at.smaller-requires c).After-is_within) c.if-is_number-is_within.true c.if-m-le0.false in
     (p.1, p.0)
 
 pub returns-then-is_number-is_within : goal.returns-then-is_number-is_within
 returns-then-is_number-is_within c =
-    positive_above (beside (goal.at.returns-then-is_number-is_within c).After-is_within) c.if-is_number-is_within.taken c.if-m-le0.left c.smaller.ensures
+    positive_above (beside (goal.at.returns-then-is_number-is_within c).After-is_within) c.if-is_number-is_within.true c.if-m-le0.false c.smaller.ensures
 
 pub returns : goal.returns
-returns c = no_above (beside (goal.at.returns c).After-is_within) c.if-is_number-is_within.left
+returns c = no_above (beside (goal.at.returns c).After-is_within) c.if-is_number-is_within.false

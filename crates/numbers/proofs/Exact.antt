@@ -1,12 +1,12 @@
 -- A number that has p digits needs no rounding: it is what the quotient is rounded to; by a power of ten only its exponent moves.
-use Prim.Native.Nat.{ℕ, ◌+◌, ◌-◌, ◌*◌, ◌^◌, ◌≤◌, ◌<◌}
+use Prim.Native.Nat.{ℕ, ◌+◌, ◌-◌, ◌*◌, ◌^◌, ◌<◌}
 use mathlib.Core.Path.{◌≡◌, refl, sym, ap, ◌∙◌}
 use native.Mathlib.Omega.{arith}
 use native.Mathlib.Nat.{mul-one, mul-pos, mul-le-mul_right, mul-lt-mul_of_pos_right, eq_of_mul-eq-mul_right, one-le-pow, pow-le-pow_right, le_of_lt}
 use lib.Pow.{pow-add}
 use lib.IntN.{ℤ, pos, ◌+ℤ◌, ◌-ℤ◌, +ℤ_assoc, -ℤ-+ℤ_cancel}
 use Rattle.numbers.specs.Numbers.{least, OfDigits, tens, tenths}
-use Rattle.numbers.specs.Rounding.{rounded, levelled, Nearest}
+use Rattle.numbers.specs.Rounding.{rounded, Nearest}
 use Rattle.numbers.specs.declared.threshold.Threshold.{Threshold}
 use Rattle.numbers.proofs.Fractions.{tenths_some, tens_level}
 use Rattle.numbers.proofs.Nearest.{Count, Rounds, rounded_digits, rounded_nearest, nearest_only}

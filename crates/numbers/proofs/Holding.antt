@@ -1,7 +1,7 @@
 -- A threshold times a ratio, held within the end stops: each exit of the definitions, that it is the nearest so held, and that the limits are kept.
-use Prim.Native.Nat.{ℕ, ◌*◌, ◌^◌, ◌≤◌, ◌<◌}
+use Prim.Native.Nat.{ℕ, ◌*◌, ◌^◌, ◌≤◌}
 use mathlib.Core.Path.{◌≡◌, refl, sym, ap, ◌∙◌, subst}
-use mathlib.Core.Bool.{Bool, true, false, ◌&&◌, and-eq-true_iff}
+use mathlib.Core.Bool.{true, false, ◌&&◌, and-eq-true_iff}
 use mathlib.Core.Logic.{⊎_elim}
 use mathlib.Mathlib.Data.Bool.Basic.{dichotomy}
 use native.Mathlib.Omega.{arith}
@@ -9,7 +9,7 @@ use borrow.Author.Tests.{ltb-false, le-ltb}
 use lib.IntN.{ℤ, pos, negsuc, nat_abs, ◌+ℤ◌, ◌-ℤ◌}
 use lib.Signed.{lt_z}
 use Rattle.ground.proofs.Cases.{to_range}
-use Rattle.numbers.specs.Numbers.{five, OfDigits, five_digits, within_stops, is_five, less, as_value}
+use Rattle.numbers.specs.Numbers.{five, OfDigits, within_stops, is_five, less, as_value}
 use Rattle.numbers.specs.Rounding.{least_stop, most_stop, held_within, is_usable, product, multiplied_by, Nearest}
 use Rattle.numbers.specs.declared.threshold.Threshold.{Threshold}
 use Rattle.numbers.specs.declared.value.Ratio.{Ratio}

@@ -1,11 +1,7 @@
 -- `rounding::climb`: the tens counted, and those still to count, are those of the definition.
 use Prim.Native.Nat.{◌≤◌, ◌+◌, ◌-◌, ◌*◌, ◌^◌}
-use mathlib.Core.Path.{◌≡◌, sym}
-use native.Mathlib.Nat.{mul-one}
-use borrow.Author.Rules.{rules}
-use native.Mathlib.Omega.{arith}
+use mathlib.Core.Path.{◌≡◌}
 use Rattle.numbers.specs.Rounding.{climb_within, climb}
-use Rattle.numbers.proofs.Climb.{climb_more, climb_done, climb_end, ten_more}
 use Rattle.numbers.proofs.rounding.climb.Given as goal
 
 abbrev pub invariant-loop-tens : goal.invariant-loop-tens

@@ -1,7 +1,6 @@
 -- `rounding::nearest`: the remainder decides between the quotient and one more.
 use Prim.Native.Nat.{ℕ, ◌<◌, ◌*◌, ◌/◌}
 use native.Mathlib.Nat.{mod-lt, le_of_lt, div-lt_iff_lt-mul}
-use borrow.Author.Rules.{rules}
 use native.Mathlib.Omega.{arith}
 use Rattle.numbers.proofs.Nearest.{nearest_up, nearest_stay}
 use Rattle.numbers.proofs.rounding.nearest.Goals as goal

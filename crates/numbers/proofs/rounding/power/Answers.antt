@@ -1,10 +1,9 @@
 -- `rounding::power`: small exponents, whose sums 32 bits hold.
 use Prim.Native.Nat.{◌+◌}
-use lib.IntN.{ℤ, pos, ◌+ℤ◌, ◌-ℤ◌}
+use lib.IntN.{pos, ◌+ℤ◌, ◌-ℤ◌}
 use mir.Syntax.{w32}
 use mir.Val.{SFits}
 use mir.Facts.{to_z-of_z, to_z_pos}
-use borrow.Author.Rules.{rules}
 use native.Mathlib.Omega.{arith}
 use Rattle.numbers.proofs.Signed.{small, abs_add, abs_minus}
 use Rattle.numbers.proofs.rounding.power.Goals as goal

@@ -3,14 +3,13 @@
 use Prim.Native.Nat.{◌≤◌}
 use mathlib.Core.Path.{◌≡◌, sym, ap, ap₂, ◌∙◌}
 use borrow.Author.Tests.{eq-eqb, ne_eqb}
-use lib.IntN.{ℤ, pos, nat_abs, ◌+ℤ◌}
+use lib.IntN.{pos, nat_abs, ◌+ℤ◌}
 use mir.Syntax.{w32}
 use mir.Val.{SFits}
 use mir.Facts.{to_z-of_z}
-use borrow.Author.Rules.{rules}
 use native.Mathlib.Omega.{arith}
 use Rattle.numbers.specs.Numbers.{five}
-use Rattle.numbers.specs.Rounding.{climb, nearest, digits, power, rounded}
+use Rattle.numbers.specs.Rounding.{nearest, digits, power, rounded}
 use Rattle.numbers.specs.declared.rounding.Climbed.{Climbed}
 use Rattle.numbers.proofs.Nearest.{placed, power_near}
 use Rattle.numbers.proofs.Signed.{small, abs_add}

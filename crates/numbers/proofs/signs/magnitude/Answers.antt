@@ -1,7 +1,6 @@
 -- A number below zero is negated in 64 bits, where its negation fits; any other is its own magnitude.
 use mathlib.Core.Path.{◌≡◌}
 use native.Mathlib.Omega.{arith}
-use borrow.Author.Rules.{rules}
 use lib.IntN.{ℤ, pos, neg_ℤ, ◌-ℤ◌}
 use lib.Signed.{nat_abs-le}
 use mir.Syntax.{w32, w64}

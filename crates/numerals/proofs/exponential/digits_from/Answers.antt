@@ -4,7 +4,6 @@ use Prim.Native.Nat.{◌+◌, ◌<◌}
 use mathlib.Core.Path.{sym, ◌∙◌}
 use Prim.Native.Char.{code}
 use lib.ListN.{length}
-use borrow.Author.Rules.{rules}
 use native.Mathlib.Omega.{arith}
 use Rattle.numerals.proofs.DigitRuns.{head_in, run_in}
 use Rattle.numerals.proofs.Composing.{fraction_there, fraction_not}

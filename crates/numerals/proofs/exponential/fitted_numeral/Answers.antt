@@ -1,7 +1,6 @@
 -- `exponential::fitted_numeral`: what fits is within, what does not is out of range.
 use mathlib.Core.Path.{sym, ap, ◌∙◌}
 use mir.Facts.{to_z-of_z}
-use borrow.Author.Rules.{rules}
 use Rattle.numbers.specs.Rounding.{fitted_to}
 use Rattle.numerals.specs.Exponential.{fitted_numeral}
 use Rattle.numerals.proofs.exponential.fitted_numeral.Goals as goal

@@ -1,7 +1,6 @@
 -- `exponential::gathered`: the second run is read behind the number of the first.
 use Prim.Native.Nat.{◌-◌}
 use mathlib.Core.Path.{sym, ap, ◌∙◌}
-use borrow.Author.Rules.{rules}
 use native.Mathlib.Omega.{arith}
 use Rattle.numerals.specs.Runs.{part, value}
 use Rattle.numerals.proofs.DigitRuns.{value_join, bound_room}

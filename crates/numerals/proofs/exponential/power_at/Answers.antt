@@ -1,6 +1,5 @@
 -- `exponential::power_at`: nothing, or E and a power behind it.
 use mathlib.Core.Path.{sym, ◌∙◌}
-use borrow.Author.Rules.{rules}
 use native.Mathlib.Omega.{arith}
 use Rattle.numerals.proofs.Powers.{power_none, power_e, power_other}
 use Rattle.numerals.proofs.exponential.power_at.Goals as goal

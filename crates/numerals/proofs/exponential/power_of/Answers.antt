@@ -6,7 +6,6 @@ use lib.IntN.{pos, neg_ℤ}
 use mir.Syntax.{w32}
 use mir.Val.{SFits}
 use mir.Facts.{to_z-of_z, to_z_pos}
-use borrow.Author.Rules.{rules}
 use native.Mathlib.Omega.{arith}
 use Rattle.numbers.proofs.Signed.{small, zero_minus, abs_neg}
 use Rattle.numerals.specs.Exponential.{with_sign}

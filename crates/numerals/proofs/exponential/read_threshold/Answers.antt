@@ -1,7 +1,6 @@
 -- `exponential::read_threshold`: in the part, the plus decides where the digits begin.
 use Prim.Native.Char.{code}
 use mathlib.Core.Path.{sym, ap, ◌∙◌}
-use borrow.Author.Rules.{rules}
 use native.Mathlib.Omega.{arith}
 use Rattle.numerals.specs.Exponential.{threshold_of}
 use Rattle.numerals.proofs.DigitRuns.{head_in}

@@ -5,7 +5,6 @@ use mathlib.Core.Bool.{Bool, ◌||◌}
 use mathlib.Core.List.{List}
 use lib.ListN.{drop}
 use Prim.Native.Nat.{ℕ}
-use borrow.Author.Rules.{rules}
 use native.Mathlib.Omega.{arith}
 use Rattle.numerals.specs.Runs.{head_is}
 use Rattle.numerals.specs.Whole.{number_of}

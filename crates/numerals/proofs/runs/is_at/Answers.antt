@@ -1,6 +1,5 @@
 -- `runs::is_at`: the byte at the place, or no byte there.
 use mathlib.Core.Path.{sym}
-use borrow.Author.Rules.{rules}
 use native.Mathlib.Omega.{arith}
 use Rattle.numerals.proofs.DigitRuns.{head_at, head_out}
 use Rattle.numerals.proofs.runs.is_at.Goals as goal

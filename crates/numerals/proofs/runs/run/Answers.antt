@@ -1,10 +1,5 @@
 -- `runs::run`: as many digits as were passed, and those from here on, are the digits from the start.
-use Prim.Native.Nat.{◌≤◌, ◌+◌, ◌-◌}
-use mathlib.Core.Path.{◌≡◌}
-use lib.ListN.{length, drop}
-use borrow.Author.Rules.{rules}
 use native.Mathlib.Omega.{arith}
-use Rattle.numerals.specs.Runs.{lead}
 use Rattle.numerals.proofs.DigitRuns.{lead_more, lead_low, lead_high, lead_end}
 use Rattle.numerals.proofs.runs.run.Goals as goal
 

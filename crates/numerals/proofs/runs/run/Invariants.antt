@@ -2,10 +2,7 @@
 use Prim.Native.Nat.{◌≤◌, ◌+◌, ◌-◌}
 use mathlib.Core.Path.{◌≡◌}
 use lib.ListN.{length, drop}
-use borrow.Author.Rules.{rules}
-use native.Mathlib.Omega.{arith}
 use Rattle.numerals.specs.Runs.{lead}
-use Rattle.numerals.proofs.DigitRuns.{lead_more, lead_low, lead_high, lead_end}
 use Rattle.numerals.proofs.runs.run.Given as goal
 
 abbrev pub invariant-loop-i : goal.invariant-loop-i

@@ -1,5 +1,5 @@
 -- `runs::value`: what the bytes from here on make behind what was read is what all of them make.
-use Prim.Native.Nat.{◌≤◌, ◌+◌, ◌-◌, ◌*◌, ◌^◌}
+use Prim.Native.Nat.{◌+◌, ◌-◌}
 use mathlib.Core.Path.{◌≡◌, refl, sym, ap, ◌∙◌}
 use lib.ListN.{get_or}
 use native.Mathlib.Nat.{le_trans}

@@ -1,12 +1,7 @@
 -- `runs::value`: what the bytes from here on make behind what was read is what all of them make.
 use Prim.Native.Nat.{◌≤◌, ◌+◌, ◌-◌, ◌*◌, ◌^◌}
-use mathlib.Core.Path.{◌≡◌, refl, sym, ap, ◌∙◌}
-use lib.ListN.{get_or}
-use native.Mathlib.Nat.{le_trans}
-use borrow.Author.Rules.{rules}
-use native.Mathlib.Omega.{arith}
+use mathlib.Core.Path.{◌≡◌}
 use Rattle.numerals.specs.Runs.{part, value}
-use Rattle.numerals.proofs.DigitRuns.{part_cons, part_none, value_more, value_none, bound_more, bound_next}
 use Rattle.numerals.proofs.runs.value.Given as goal
 
 abbrev pub invariant-loop-i : goal.invariant-loop-i

@@ -1,6 +1,5 @@
 -- `whole::read_whole`: the number in the part.
 use mathlib.Core.Path.{ap, ◌∙◌}
-use borrow.Author.Rules.{rules}
 use Rattle.numerals.specs.Whole.{whole_of}
 use Rattle.numerals.proofs.whole.read_whole.Goals as goal
 

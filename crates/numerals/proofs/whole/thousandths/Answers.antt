@@ -1,6 +1,5 @@
 -- `whole::thousandths`: one case for each count of digits.
 use mathlib.Core.Path.{◌≡◌}
-use borrow.Author.Rules.{rules}
 use native.Mathlib.Omega.{arith}
 use Rattle.numerals.proofs.whole.thousandths.Goals as goal
 

@@ -4,7 +4,6 @@ use mathlib.Core.Path.{ap, ◌∙◌}
 use native.Mathlib.Nat.{div-one}
 use lib.IntN.{nat_abs}
 use mir.Facts.{to_z-of_z}
-use borrow.Author.Rules.{rules}
 use Rattle.numerals.specs.Writing.{scientific, sign_byte}
 use Rattle.numerals.proofs.writing.scientific.Goals as goal
 

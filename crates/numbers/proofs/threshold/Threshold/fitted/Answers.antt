@@ -1,7 +1,6 @@
 -- `Threshold::fitted`: zero, a far power, or the rounded number within the stops or not.
 use mathlib.Core.Path.{◌≡◌, sym, ap, ◌∙◌}
 use mir.Facts.{to_z-of_z}
-use borrow.Author.Rules.{rules}
 use native.Mathlib.Omega.{arith}
 use Rattle.numbers.specs.Numbers.{five, within_stops}
 use Rattle.numbers.specs.Rounding.{rounded}

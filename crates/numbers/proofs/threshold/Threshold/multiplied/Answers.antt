@@ -6,7 +6,6 @@ use lib.IntN.{pos}
 use mir.Syntax.{w32}
 use mir.Val.{SFits, to_z, of_z}
 use mir.Facts.{to_z-of_z}
-use borrow.Author.Rules.{rules}
 use Rattle.numbers.specs.Numbers.{within_stops, as_value}
 use Rattle.numbers.specs.Rounding.{is_usable}
 use Rattle.numbers.specs.declared.threshold.Threshold.{Threshold}

@@ -1,5 +1,4 @@
 -- One multiplication by the factor between the two units.
-use borrow.Author.Rules.{rules}
 use Rattle.numbers.proofs.threshold.Threshold.re_expressed.Goals as goal
 
 pub returns : goal.returns

@@ -1,7 +1,6 @@
 -- Either test is the definition's.
 use mathlib.Core.Path.{ap₂}
 use mathlib.Core.Bool.{◌||◌}
-use borrow.Author.Rules.{rules}
 use Rattle.numbers.proofs.value.Value.is_number.Goals as goal
 
 pub returns : goal.returns

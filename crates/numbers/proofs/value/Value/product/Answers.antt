@@ -8,7 +8,6 @@ use mir.Facts.{to_z-of_z}
 use borrow.Author.Rules.{rules}
 use native.Mathlib.Omega.{arith}
 use Rattle.numbers.specs.Numbers.{five}
-use Rattle.numbers.specs.Rounding.{rounded}
 use Rattle.numbers.proofs.Scaling.{value_range, product_rounds}
 use Rattle.numbers.proofs.Signed.{small, abs_minus}
 use Rattle.numbers.proofs.value.Value.product.Goals as goal

@@ -2,7 +2,6 @@
 use mathlib.Core.Bool.{and-eq-true_iff}
 use borrow.Author.Tests.{eqb-true}
 use lib.Dec.{eqb}
-use borrow.Author.Rules.{rules}
 use Rattle.numbers.proofs.Scaling.{scaled_one}
 use Rattle.numbers.proofs.value.Value.scaled.Goals as goal
 

@@ -1,5 +1,6 @@
 // The bench program: frames on standard input, one to a line, and an output line for each on standard output.
 #![tactic(auto)]
+
 ghost use Rattle.std.specs.Prelude.{◌≡◌, ◌≤◌, length, take, drop};
 ghost use Rattle.tpg.specs.Steps.{over};
 ghost use Rattle.frames.specs.Frames.{longest_line};
@@ -7,7 +8,8 @@ ghost use Rattle.bench.specs.Blocks.{finished, behind_lines, after_lines, lines_
 ghost use Rattle.bench.specs.Walk.{kept_count};
 
 use frames::{LONGEST_FRAME, LONGEST_LINE};
-use libc::{STDIN_FILENO, STDOUT_FILENO};
+use std::io::{Read, Write};
+use std::rt::{Stdin, Stdout};
 use text::control::LF;
 use text::spans::end_of;
 use tpg::State;
@@ -53,8 +55,16 @@ fn answer_lines(state: State, block: &[u8], out: &mut [u8]) -> BlockOutcome
     }
 }
 
+// The bytes to standard output; where no one takes them they are lost, and the box goes on.
+fn send(output: &mut Stdout, bytes: &[u8]) {
+    match output.write_all(bytes) {
+        Ok(()) => {}
+        Err(_) => {}
+    }
+}
+
 // Every finished line of a block answered, in as few writes as the output's room allows.
-fn answer_block(state: State, block: &[u8], out: &mut [u8]) -> BlockOutcome
+fn answer_block(output: &mut Stdout, state: State, block: &[u8], out: &mut [u8]) -> BlockOutcome
     requires { longest_line ≤ length out.old }
     ensures { let ls = finished block.now in result ≡ record { state = after_lines state ls; from = behind_lines ls; written = 0 } }
 {
@@ -70,7 +80,7 @@ fn answer_block(state: State, block: &[u8], out: &mut [u8]) -> BlockOutcome
             };
         }
         let written = answered.written;
-        io::write_all(STDOUT_FILENO, &out[..written]);
+        send(output, &out[..written]);
         let next = answered.state;
         now = next;
         from += answered.from;
@@ -93,29 +103,33 @@ fn keep(block: &mut [u8], from: usize, end: usize) -> usize
     i
 }
 
-// More input behind the line that is kept; where the block then ends.
-fn fill(block: &mut [u8], held: usize) -> usize
+// More input behind the line that is kept; where the block then ends. A read that fails is the end of the input.
+fn fill(input: &mut Stdin, block: &mut [u8], held: usize) -> usize
     requires { held ≤ length block.old }
     ensures { (held ≤ result) × (result ≤ length block.new) }
 {
-    let got = libc::read(STDIN_FILENO, &mut block[held..]);
-    held + io::count(got, &block[held..])
+    match input.read(&mut block[held..]) {
+        Ok(got) => held + got,
+        Err(_) => held,
+    }
 }
 
-fn main() {
+fn main(rt: HostRuntime) {
+    let mut input = rt.stdin();
+    let mut output = rt.stdout();
     let fresh = State::fresh(362, 0);
     let mut state = fresh.state;
-    let mut block = io::large_buffer();
-    let mut out = io::large_buffer();
+    let mut block = [0u8; 65536];
+    let mut out = [0u8; 65536];
     let mut held: usize = 0;
     // a proved loop has to end, and nothing says that the input does
     let mut turns = u64::MAX;
     while turns > 0 {
-        let end = fill(&mut block, held);
+        let end = fill(&mut input, &mut block, held);
         if end == held {
             turns = 0;
         } else {
-            let answered = answer_block(state, &block[..end], &mut out);
+            let answered = answer_block(&mut output, state, &block[..end], &mut out);
             let next = answered.state;
             state = next;
             held = keep(&mut block, answered.from, end);
@@ -125,6 +139,6 @@ fn main() {
     // the last line may lack its end
     if 0 < held {
         let answered = frames::answer(state, &block[..held], &mut out);
-        io::write_all(STDOUT_FILENO, &out[..answered.written]);
+        send(&mut output, &out[..answered.written]);
     }
 }

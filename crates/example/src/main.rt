@@ -1,11 +1,14 @@
 // A box in use: all that it sends goes to standard output.
 #![tactic(auto)]
+
 use frames::FrameOutcome;
-use libc::STDOUT_FILENO;
 use lines::judging::judge;
 use lines::verdict::Verdict;
 use settings::Settings;
 use settings::model::Model;
+use std::io;
+use std::io::Write;
+use std::rt::Stdout;
 use tpg::State;
 use tpg::answers::Outcome;
 
@@ -44,25 +47,26 @@ fn after(model: Model, s: Settings, line: &[u8]) -> Settings {
 }
 
 // The bytes that a call wrote: never more than out has, and the test spares a proof of that here.
-fn send(out: &[u8], written: usize) {
+fn send(output: &mut Stdout, out: &[u8], written: usize) -> io::Result<()> {
     if written <= out.len() {
-        io::write_all(STDOUT_FILENO, &out[0..written]);
+        output.write_all(&out[0..written])?;
     }
+    Ok(())
 }
 
 // One box through four calls, then the unit that a line sets.
-fn main() {
-    let mut out = io::large_buffer();
+fn main(rt: HostRuntime) -> io::Result<()> {
+    let mut output = rt.stdout();
+    let mut out = [0u8; 65536];
     let asked = filters(&mut out);
-    send(&out, asked.written);
+    send(&mut output, &out, asked.written)?;
     let set = streaming(asked.state, &mut out);
-    send(&out, set.written);
+    send(&mut output, &out, set.written)?;
     let ticked = read_and_tick(set.state, &mut out);
-    send(&out, ticked.written);
+    send(&mut output, &out, ticked.written)?;
     let line = answered(ticked.state, &mut out);
-    send(&out, line.written);
+    send(&mut output, &out, line.written)?;
     let model = Model::Tpg362;
     let stored = after(model, model.defaults(), b"UNI,1");
-    io::print_decimal(STDOUT_FILENO, stored.unit as u64);
-    io::write_all(STDOUT_FILENO, b"\n");
+    println!(output; "{}", stored.unit)
 }

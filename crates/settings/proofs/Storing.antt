@@ -1,7 +1,7 @@
 -- What a line stores is what is read back, the other rows stay, and the rows say all.
 use Prim.Native.Nat.{ℕ, zero, suc, ◌≤◌, ◌<◌}
 use mathlib.Core.Path.{◌≡◌, refl, sym, ap, ◌∙◌, subst}
-use mathlib.Core.List.{List}
+use mathlib.Core.List.{List, [], ◌∷◌}
 use mathlib.Core.Bool.{cond}
 use mathlib.Core.Logic.{◌≢◌}
 use native.Mathlib.Omega.{arith}
@@ -136,7 +136,7 @@ module _ (b : Settings) (r : Row) where
   -- nor does another setting, but the unit
   others_stay : {x y : Setting} → Holding x → Holding y → x ≢ Uni → y ≢ x → row (with_row b x r) y ≡ row b y
   others_stay uni y u d = absurd (u refl)
-  others_stay cal y u d = others_factors b _ y d
+  others_stay cal y u d = others_factors b (first_number r ∷ second_number r ∷ []) y d
   others_stay (sp j g) uni u d = refl
   others_stay (sp j g) cal u d = refl
   others_stay (sp j g) (sp k h) u d = ap cells_of (get_or-set_other b.switching j k (switching_of r) no_switching (λ e. d (ap Sp e)))

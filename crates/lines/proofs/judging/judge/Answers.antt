@@ -20,8 +20,7 @@ returns-in-Unknown c =
 
 pub returns-in-Known : goal.returns-in-Known
 returns-in-Known c =
-    let n = c.n-1.given in
     let e = c.field_end-e in
     let a = c.args in
     c.judge_known.ensures
-    ∙ line_named a.model a.line.now e.result (omega (arith, e.ensures)) (Known n.0.0) (sym c.recognise-n.ensures ∙ n.1)
+    ∙ line_named a.model a.line.now e.result (omega (arith, e.ensures)) (Known c.in-Known.m) (sym c.recognise-n.ensures ∙ c.in-Known.is)

@@ -10,10 +10,9 @@ use Rattle.settings.proofs.Settings.store.Goals as goal
 
 pub returns-in-OfSetting : goal.returns-in-OfSetting
 returns-in-OfSetting c =
-    let m = c.m-1.given in
     let x = c.in-OfSetting.x in
     let a = c.args in
-    rw (c.with_row.ensures, c.mixed.ensures, c.row.ensures, c.setting_entry-e.ensures, m.1, c.in-OfSetting.is)
+    rw (c.with_row.ensures, c.mixed.ensures, c.row.ensures, c.setting_entry-e.ensures, c.in-OfReplying.is, c.in-OfSetting.is)
     (ap (λ (n : ℕ). with_row a.self x (mixed n a.r (row a.self x))) (sym (count_kinds ((setting_entry x).fields a.model) (few a.model (setting x)))))
 
 pub returns-in-Cf : goal.returns-in-Cf

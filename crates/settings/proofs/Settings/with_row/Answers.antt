@@ -25,9 +25,8 @@ returns-then-i-lt4 c = rw c.in-Sp.is
 pub returns-else-i-lt4 : goal.returns-else-i-lt4
 returns-else-i-lt4 c =
     let a = c.args in
-    let x = c.x-1.given in
     let n : length a.self.switching ≡ 4 = search (rules, length-mapped) in
-    rw x.1 (ap (with_switching a.self) (sym (set_out a.self.switching x.0.0 (switching_of a.r) (omega arith))))
+    rw c.in-Sp.is (ap (with_switching a.self) (sym (set_out a.self.switching c.in-Sp.k (switching_of a.r) (omega arith))))
 
 pub returns-then-i-lt16 : goal.returns-then-i-lt16
 returns-then-i-lt16 c = rw c.in-Stored.is
@@ -35,6 +34,5 @@ returns-then-i-lt16 c = rw c.in-Stored.is
 pub returns-else-i-lt16 : goal.returns-else-i-lt16
 returns-else-i-lt16 c =
     let a = c.args in
-    let x = c.x-in-Stored-1.given in
     let n : length a.self.stored ≡ 16 = search (rules, length-mapped) in
-    rw x.1 (ap (with_stored a.self) (sym (set_out a.self.stored x.0.0 (pair_of a.r) (omega arith))))
+    rw c.in-Stored.is (ap (with_stored a.self) (sym (set_out a.self.stored c.in-Stored.k (pair_of a.r) (omega arith))))

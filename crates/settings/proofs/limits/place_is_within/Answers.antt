@@ -3,7 +3,7 @@ use borrow.Author.Rules.{rules}
 use Rattle.settings.proofs.limits.place_is_within.Goals as goal
 
 pub returns-then-has : goal.returns-then-has
-returns-then-has c = rw (c.if-has.true, c.fits2.ensures)
+returns-then-has c = rw (c.if-has.true, c.fits.ensures)
 
 pub returns : goal.returns
 returns c = rw (c.if-has.false, c.is_same.ensures)

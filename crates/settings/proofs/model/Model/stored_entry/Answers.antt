@@ -1,7 +1,7 @@
 -- Each arm is a row of the table, and past the last there is none (`others-past`, `stored_past`).
 use mathlib.Core.Path.{◌∙◌, sym, ap}
 use borrow.Author.Rules.{rules}
-use Rattle.ground.proofs.Ranges.{others_past}
+use native.Mathlib.Omega.{arith}
 use Rattle.settings.proofs.Tabled.{stored_past}
 use Rattle.settings.specs.Table.{on, stored_entry}
 use Rattle.settings.proofs.model.Model.stored_entry.Goals as goal
@@ -74,4 +74,4 @@ pub returns-in_default : goal.returns-in_default
 unfolding stored_entry
 returns-in_default c =
     let a = c.args in
-    c.nothing.ensures ∙ ap (on a.self) (sym (stored_past a.k (others_past 16 a.k c.in_default-own.rest)))
+    c.nothing.ensures ∙ ap (on a.self) (sym (stored_past a.k (omega arith)))

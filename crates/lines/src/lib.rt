@@ -1,5 +1,6 @@
 // A line from the host, judged: it asks, it writes, or it is refused with its first fault; and the reply of each setting.
 #![tactic(auto)]
+
 pub mod fields;
 pub mod judging;
 pub mod replies;

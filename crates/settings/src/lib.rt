@@ -1,5 +1,6 @@
 // What a box is set to: models, mnemonics, the table of their fields and defaults, settings and their limits, and storing.
 #![tactic(auto)]
+
 use numbers::threshold::Threshold;
 
 pub mod kinds;

@@ -1,5 +1,4 @@
 -- Which selections a model can answer, and which of them is the error word.
-use Prim.Native.Nat.{ℕ}
 use mathlib.Core.Path.{◌≡◌, refl, sym}
 use mathlib.Core.Bool.{true, false, and-true}
 use lib.Dec.{ltb}

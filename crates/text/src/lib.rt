@@ -1,5 +1,6 @@
 // Bytes put into a lent output from a place on, and the place after them.
 #![tactic(auto)]
+
 ghost use Rattle.std.specs.Prelude.{◌≡◌, ◌+◌, ◌≤◌, length};
 ghost use Rattle.text.specs.Page.{page, put, puts};
 

@@ -1,11 +1,8 @@
 -- `text::cut`: the bytes put, and those still to put, are all of s.
-use Prim.Native.Nat.{◌≤◌, ◌-◌, ◌+◌}
-use mathlib.Core.Path.{◌≡◌, refl, sym, ap, ◌∙◌}
+use Prim.Native.Nat.{◌≤◌, ◌-◌}
+use mathlib.Core.Path.{◌≡◌}
 use lib.ListN.{length, drop}
-use borrow.Author.Rules.{rules}
-use native.Mathlib.Omega.{arith}
 use Rattle.text.specs.Page.{page, puts}
-use Rattle.text.proofs.Pages.{puts_next, puts_done}
 use Rattle.text.proofs.cut.Given as goal
 
 abbrev pub invariant-loop-i : goal.invariant-loop-i

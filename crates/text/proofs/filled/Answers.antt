@@ -1,11 +1,11 @@
 -- `text::filled`: the bytes put, and those still to put, are all of s.
-use Prim.Native.Nat.{◌≤◌, ◌-◌, ◌+◌}
+use Prim.Native.Nat.{◌+◌}
 use mathlib.Core.Path.{◌≡◌, refl, sym, ◌∙◌}
 use native.Mathlib.Nat.{add-zero}
-use lib.ListN.{length, length-set, drop}
+use lib.ListN.{length, length-set}
 use borrow.Author.Rules.{rules}
 use native.Mathlib.Omega.{arith}
-use Rattle.text.specs.Page.{page, puts}
+use Rattle.text.specs.Page.{page}
 use Rattle.text.proofs.Pages.{puts_done, filled_next}
 use Rattle.text.proofs.filled.Goals as goal
 

@@ -1,12 +1,8 @@
 -- `text::filled`: the bytes put, and those still to put, are all of s.
 use Prim.Native.Nat.{◌≤◌, ◌-◌, ◌+◌}
-use mathlib.Core.Path.{◌≡◌, refl, sym, ◌∙◌}
-use native.Mathlib.Nat.{add-zero}
-use lib.ListN.{length, length-set, drop}
-use borrow.Author.Rules.{rules}
-use native.Mathlib.Omega.{arith}
+use mathlib.Core.Path.{◌≡◌}
+use lib.ListN.{length, drop}
 use Rattle.text.specs.Page.{page, puts}
-use Rattle.text.proofs.Pages.{puts_done, filled_next}
 use Rattle.text.proofs.filled.Given as goal
 
 abbrev pub invariant-loop-i : goal.invariant-loop-i

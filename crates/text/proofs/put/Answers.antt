@@ -1,6 +1,5 @@
 -- `text::put`: one more byte where there is room for it.
 use mathlib.Core.Path.{sym}
-use borrow.Author.Rules.{rules}
 use Rattle.text.proofs.Pages.{put_more, put_full}
 use Rattle.text.proofs.put.Goals as goal
 

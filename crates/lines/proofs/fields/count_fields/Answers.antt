@@ -1,10 +1,5 @@
 -- The commas before the place i, and the fields from it on, are all fields.
-use Prim.Native.Nat.{◌≤◌, ◌+◌, ◌-◌}
-use mathlib.Core.Path.{◌≡◌}
-use lib.ListN.{length, drop}
-use borrow.Author.Rules.{rules}
 use native.Mathlib.Omega.{arith}
-use Rattle.lines.specs.Splitting.{fields}
 use Rattle.lines.proofs.Walking.{fields_here, fields_on, fields_end}
 use Rattle.lines.proofs.fields.count_fields.Goals as goal
 use Rattle.lines.proofs.fields.count_fields.Goals.{then-s-i-eq44, else-s-i-eq44}

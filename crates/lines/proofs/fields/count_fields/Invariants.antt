@@ -1,12 +1,8 @@
 -- The commas before the place i, and the fields from it on, are all fields.
 use Prim.Native.Nat.{◌≤◌, ◌+◌, ◌-◌}
 use mathlib.Core.Path.{◌≡◌}
-use mathlib.Core.Logic.{⊎_elim}
 use lib.ListN.{length, drop}
-use borrow.Author.Rules.{rules}
-use native.Mathlib.Omega.{arith}
 use Rattle.lines.specs.Splitting.{fields}
-use Rattle.lines.proofs.Walking.{fields_here, fields_on, fields_end}
 use Rattle.lines.proofs.fields.count_fields.Given as goal
 
 abbrev pub invariant-loop-i : goal.invariant-loop-i

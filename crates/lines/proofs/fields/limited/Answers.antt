@@ -1,5 +1,4 @@
 -- A number from least to most is held; one above, up to what two channels have, lacks hardware; any other is inadmissible.
-use borrow.Author.Rules.{rules}
 use Rattle.lines.specs.Fields.{limited}
 use Rattle.lines.proofs.fields.limited.Goals as goal
 

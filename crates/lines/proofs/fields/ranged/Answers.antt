@@ -1,5 +1,4 @@
 -- A number is held to its limits; what is none is a fault of form.
-use borrow.Author.Rules.{rules}
 use Rattle.lines.proofs.fields.ranged.Goals as goal
 
 pub returns-in-NoNumber : goal.returns-in-NoNumber

@@ -1,5 +1,4 @@
 -- The kind tells the case, and the field is what the callee makes of the numeral that was read.
-use borrow.Author.Rules.{rules}
 use Rattle.lines.proofs.fields.read.Goals as goal
 
 pub returns-in-OfWhole : goal.returns-in-OfWhole

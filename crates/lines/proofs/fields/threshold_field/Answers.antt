@@ -1,5 +1,4 @@
 -- What is no threshold has the fault of its case, and one within its stops is held.
-use borrow.Author.Rules.{rules}
 use Rattle.lines.proofs.fields.threshold_field.Goals as goal
 
 pub returns-in-NoThreshold : goal.returns-in-NoThreshold

@@ -1,6 +1,5 @@
 -- What the word before the first comma names decides what the whole line is (`line-named`).
 use mathlib.Core.Path.{sym, ◌∙◌}
-use borrow.Author.Rules.{rules}
 use native.Mathlib.Omega.{arith}
 use Rattle.settings.specs.declared.mnemonic.Named.TheVariants.{Known, Unknown}
 use Rattle.lines.proofs.Walking.{end_inside, line_named}

@@ -1,5 +1,4 @@
 -- COM and SAV write their defaults, and any other mnemonic asks.
-use borrow.Author.Rules.{rules}
 use Rattle.lines.proofs.judging.judge_alone.Goals as goal
 
 pub returns-in-OfReplying : goal.returns-in-OfReplying

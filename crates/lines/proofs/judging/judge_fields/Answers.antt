@@ -1,6 +1,5 @@
 -- As many fields as the mnemonic takes are judged (`fields-judged`); any other number is refused (`fields-wrong`).
 use mathlib.Core.Path.{sym, ◌∙◌}
-use borrow.Author.Rules.{rules}
 use Rattle.lines.proofs.Walking.{fields_judged, fields_wrong}
 use Rattle.lines.proofs.judging.judge_fields.Goals as goal
 

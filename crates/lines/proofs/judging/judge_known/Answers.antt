@@ -1,7 +1,6 @@
 -- A comma behind the mnemonic, none, or a channel that the model lacks (`known_more`, `known_alone`, `known-not`).
 use mathlib.Core.Path.{sym, ◌∙◌}
 use lib.ListN.{drop}
-use borrow.Author.Rules.{rules}
 use Rattle.lines.specs.Splitting.{fields}
 use Rattle.lines.proofs.Walking.{known_more, known_alone, known_not}
 use Rattle.lines.proofs.judging.judge_known.Goals as goal

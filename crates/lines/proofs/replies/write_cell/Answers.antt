@@ -1,6 +1,5 @@
 -- The kind tells the case, and the callee of each writes the cell.
 use mathlib.Core.Path.{◌∙◌}
-use borrow.Author.Rules.{rules}
 use Rattle.lines.proofs.replies.write_cell.Goals as goal
 
 pub returns-in-OfWhole : goal.returns-in-OfWhole

@@ -1,6 +1,5 @@
 -- A comma and then the cell.
 use mathlib.Core.Path.{ap, ◌∙◌}
-use borrow.Author.Rules.{rules}
 use Rattle.text.specs.Page.{Page, puts}
 use Rattle.lines.specs.Fields.{write}
 use Rattle.lines.proofs.replies.write_more.Goals as goal

@@ -1,7 +1,6 @@
 -- The cells one after the other (`setting-written`); a setting that the model has no field for has no text.
 use mathlib.Core.Path.{sym, ap, ◌∙◌}
 use lib.Dec.{ltb}
-use borrow.Author.Rules.{rules}
 use Rattle.text.specs.Page.{Page, page, puts}
 use Rattle.lines.specs.Walk.{more}
 use Rattle.lines.proofs.Written.{setting_none, setting_written}

@@ -1,5 +1,4 @@
 -- The cell that is held, or nothing.
-use borrow.Author.Rules.{rules}
 use Rattle.lines.proofs.verdict.cell_of.Goals as goal
 
 pub returns-in-Faulty : goal.returns-in-Faulty

@@ -1,5 +1,4 @@
 -- The calls nest as `formed` and `valued` do: the form of all three fields decides before the value of any.
-use borrow.Author.Rules.{rules}
 use Rattle.lines.specs.Judging.{formed, valued}
 use Rattle.lines.proofs.verdict.conclude.Goals as goal
 

@@ -1,5 +1,4 @@
 -- A fault of form makes the verdict a refusal for syntax; any other field leaves it as it was.
-use borrow.Author.Rules.{rules}
 use Rattle.lines.proofs.verdict.form_or.Goals as goal
 
 pub returns-in-Syntax : goal.returns-in-Syntax

@@ -1,6 +1,5 @@
 -- Four digits, as the word has them (`word-digits`).
 use mathlib.Core.Path.{◌∙◌, ap}
-use borrow.Author.Rules.{rules}
 use Rattle.text.specs.Page.{page, puts}
 use Rattle.lines.proofs.Worded.{word_digits}
 use Rattle.lines.proofs.word.write_word.Goals as goal

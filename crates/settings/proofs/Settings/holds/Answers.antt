@@ -1,5 +1,4 @@
 -- The row of the setting on the model, beside its default.
-use borrow.Author.Rules.{rules}
 use Rattle.settings.proofs.Settings.holds.Goals as goal
 
 pub returns : goal.returns

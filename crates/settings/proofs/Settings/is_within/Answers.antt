@@ -1,11 +1,6 @@
 -- What was found up to i, with the test from i on, is the test over all.
-use Prim.Native.Nat.{◌≤◌, ◌-◌}
-use mathlib.Core.Path.{◌≡◌, refl, sym, ◌∙◌}
-use mathlib.Core.Bool.{◌&&◌}
-use lib.ListN.{take, drop}
+use mathlib.Core.Path.{refl, sym, ◌∙◌}
 use native.Mathlib.Omega.{arith}
-use borrow.Author.Rules.{rules}
-use Rattle.ground.specs.Members.{every}
 use Rattle.ground.proofs.Ranges.{range_next, range_end}
 use Rattle.settings.specs.Mnemonics.{settings_held}
 use Rattle.settings.specs.Limits.{row_within, within}

@@ -1,5 +1,4 @@
 -- The setting tells the case, and its row is made of its numbers or of its switching function.
-use borrow.Author.Rules.{rules}
 use Rattle.settings.proofs.Settings.row.Goals as goal
 
 pub returns-in-Uni : goal.returns-in-Uni

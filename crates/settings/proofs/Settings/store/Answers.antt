@@ -1,7 +1,6 @@
 -- The row counts its fields (`count-kinds`), and so many cells are written.
 use mathlib.Core.Path.{sym, ap}
 use Prim.Native.Nat.{ℕ}
-use borrow.Author.Rules.{rules}
 use Rattle.settings.specs.Rows.{mixed, row, with_row}
 use Rattle.settings.specs.Table.{setting_entry}
 use Rattle.settings.specs.Mnemonics.{setting}

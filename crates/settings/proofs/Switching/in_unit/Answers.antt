@@ -1,5 +1,4 @@
 -- Each threshold is re-expressed, and the assignment stays.
-use borrow.Author.Rules.{rules}
 use Rattle.settings.proofs.Switching.in_unit.Goals as goal
 
 pub returns : goal.returns

@@ -1,5 +1,4 @@
 -- The kind tells the case: the limits of a whole number or a factor, or the stops of a threshold.
-use borrow.Author.Rules.{rules}
 use Rattle.settings.proofs.limits.fits.Goals as goal
 
 pub returns-in-OfWhole : goal.returns-in-OfWhole

@@ -1,5 +1,4 @@
 -- The test is whether the cell fits its field or, where there is no field, whether it is the default.
-use borrow.Author.Rules.{rules}
 use Rattle.settings.proofs.limits.place_is_within.Goals as goal
 
 pub returns-then-has : goal.returns-then-has

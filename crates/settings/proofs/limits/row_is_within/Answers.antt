@@ -1,5 +1,4 @@
 -- The three places, one after the other (`row-placed`).
-use borrow.Author.Rules.{rules}
 use Rattle.settings.proofs.Places.{row_placed}
 use Rattle.settings.proofs.limits.row_is_within.Goals as goal
 

@@ -1,6 +1,5 @@
 -- The first are the settings (`at-setting`), and behind them stand the others (`at_other`).
 use mathlib.Core.Path.{ap, ◌∙◌}
-use borrow.Author.Rules.{rules}
 use Rattle.settings.specs.Mnemonics.{setting}
 use Rattle.settings.proofs.Names.{at_setting, at_other}
 use Rattle.settings.proofs.mnemonic.mnemonic_at.Goals as goal

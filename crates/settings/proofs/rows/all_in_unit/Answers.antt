@@ -1,5 +1,5 @@
 -- The four functions are all that the list has (`entries-all`).
-use mathlib.Core.Path.{◌≡◌, sym, ap, subst}
+use mathlib.Core.Path.{◌≡◌, ap, subst}
 use mathlib.Core.List.{map}
 use lib.ListN.{length, get_or}
 use borrow.Author.Rules.{rules}

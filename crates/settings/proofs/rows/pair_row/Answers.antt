@@ -1,5 +1,4 @@
 -- Both numbers and a 0, each as a plain cell.
-use borrow.Author.Rules.{rules}
 use Rattle.settings.proofs.rows.pair_row.Goals as goal
 
 pub returns : goal.returns

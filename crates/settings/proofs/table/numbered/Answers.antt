@@ -3,7 +3,6 @@ use Prim.Native.Nat.{ℕ, ◌+◌}
 use mathlib.Core.Path.{sym, refl, ap}
 use mathlib.Core.List.{[], ◌∷◌}
 use lib.ListN.{get_or-eq_default}
-use borrow.Author.Rules.{rules}
 use Rattle.ground.proofs.Tables.{tabled}
 use Rattle.text.specs.Text.{ascii}
 use Rattle.settings.proofs.table.numbered.Goals as goal

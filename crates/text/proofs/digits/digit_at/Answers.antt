@@ -3,7 +3,6 @@ use Prim.Native.Nat.{ℕ, ◌<◌, ◌^◌}
 use mathlib.Core.Path.{◌≡◌, refl}
 use native.Mathlib.Nat.{one-le-pow, pow-le-pow_right, div-eq_of_lt}
 use lib.ListN.{get_or}
-use borrow.Author.Rules.{rules}
 use native.Mathlib.Omega.{arith}
 use Rattle.ground.proofs.Tables.{entries, tabled}
 use Rattle.text.proofs.digits.digit_at.Goals as goal

@@ -1,5 +1,4 @@
 -- `digits::digits_of`: each place gives its digit.
-use borrow.Author.Rules.{rules}
 use Rattle.text.proofs.digits.digits_of.Goals as goal
 
 pub returns : goal.returns

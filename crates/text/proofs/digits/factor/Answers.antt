@@ -3,7 +3,6 @@ use Prim.Native.Nat.{◌/◌}
 use Prim.Native.Char.{code}
 use mathlib.Core.Path.{ap, ◌∙◌}
 use mathlib.Core.List.{◌∷◌}
-use borrow.Author.Rules.{rules}
 use Rattle.text.specs.Digits.{dig, whole_text}
 use Rattle.text.specs.Page.{page, puts}
 use Rattle.text.proofs.Pages.{then}

@@ -1,6 +1,5 @@
 -- `digits::whole`: one digit is the whole number; of more the digits behind the leading zeros.
 use mathlib.Core.Path.{ap, sym, ◌∙◌}
-use borrow.Author.Rules.{rules}
 use Rattle.text.specs.Digits.{bare}
 use Rattle.text.specs.Page.{page, puts}
 use Rattle.text.proofs.Decimals.{whole_digit}

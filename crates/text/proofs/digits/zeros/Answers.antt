@@ -1,10 +1,7 @@
 -- `digits::zeros`: what was passed are leading zeros, so the digits from here on are bare where all are.
-use Prim.Native.Nat.{◌≤◌, ◌-◌}
-use mathlib.Core.Path.{◌≡◌, refl, ◌∙◌}
-use lib.ListN.{length, drop}
+use mathlib.Core.Path.{refl, ◌∙◌}
 use borrow.Author.Rules.{rules}
 use native.Mathlib.Omega.{arith}
-use Rattle.text.specs.Digits.{bare}
 use Rattle.text.proofs.Decimals.{bare_zero, bare_digit, bare_last}
 use Rattle.text.proofs.digits.zeros.Goals as goal
 

@@ -1,11 +1,8 @@
 -- `digits::zeros`: what was passed are leading zeros, so the digits from here on are bare where all are.
 use Prim.Native.Nat.{◌≤◌, ◌-◌}
-use mathlib.Core.Path.{◌≡◌, refl, ◌∙◌}
+use mathlib.Core.Path.{◌≡◌}
 use lib.ListN.{length, drop}
-use borrow.Author.Rules.{rules}
-use native.Mathlib.Omega.{arith}
 use Rattle.text.specs.Digits.{bare}
-use Rattle.text.proofs.Decimals.{bare_zero, bare_digit, bare_last}
 use Rattle.text.proofs.digits.zeros.Given as goal
 
 abbrev pub invariant-loop-i : goal.invariant-loop-i

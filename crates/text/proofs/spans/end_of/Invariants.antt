@@ -1,10 +1,8 @@
 -- The end found from here is the end found from the start.
 use Prim.Native.Nat.{◌+◌, ◌-◌}
-use mathlib.Core.Path.{◌≡◌, refl}
-use native.Mathlib.Omega.{arith}
+use mathlib.Core.Path.{◌≡◌}
 use lib.ListN.{length, drop}
 use Rattle.text.specs.Spans.{until}
-use Rattle.text.proofs.Marks.{until_here, until_more, until_end}
 use Rattle.text.proofs.spans.end_of.Given as goal
 
 abbrev pub invariant-loop-i : goal.invariant-loop-i

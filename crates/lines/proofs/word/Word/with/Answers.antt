@@ -1,5 +1,4 @@
 -- Each fault sets its own digit, and the other two stay.
-use borrow.Author.Rules.{rules}
 use Rattle.lines.proofs.word.Word.with.Goals as goal
 
 pub returns-in-Syntax : goal.returns-in-Syntax

@@ -1,5 +1,4 @@
 -- No setting is named ERR (`setting-not-err`), and of the queries only one.
-use borrow.Author.Rules.{rules}
 use Rattle.settings.proofs.Answerable.{setting_not_err}
 use Rattle.settings.specs.Mnemonics.{same, is_err}
 use Rattle.settings.proofs.mnemonic.Replying.is_err.Goals as goal

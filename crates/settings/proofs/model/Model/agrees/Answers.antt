@@ -1,5 +1,4 @@
 -- An assignment that follows a channel agrees with either status, one below only with what it starts with.
-use borrow.Author.Rules.{rules}
 use Rattle.settings.proofs.model.Model.agrees.Goals as goal
 
 pub returns : goal.returns

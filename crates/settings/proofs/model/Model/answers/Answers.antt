@@ -1,5 +1,4 @@
 -- It is known, and its channel is there.
-use borrow.Author.Rules.{rules}
 use Rattle.settings.specs.Mnemonics.{answers}
 use Rattle.settings.proofs.model.Model.answers.Goals as goal
 

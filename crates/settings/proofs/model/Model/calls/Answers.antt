@@ -2,7 +2,6 @@
 -- whether the letters spell the name
 use mathlib.Core.Path.{◌≡◌, sym, ap, ◌∙◌}
 use mathlib.Core.List.{[], ◌∷◌}
-use borrow.Author.Rules.{rules}
 use Rattle.settings.specs.Mnemonics.{name, same}
 use Rattle.settings.specs.declared.table.Entry.{Entry}
 use Rattle.settings.proofs.model.Model.calls.Goals as goal

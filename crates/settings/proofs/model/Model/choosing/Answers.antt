@@ -1,5 +1,4 @@
 -- The choice of a channel.
-use borrow.Author.Rules.{rules}
 use Rattle.settings.proofs.model.Model.choosing.Goals as goal
 
 pub returns : goal.returns

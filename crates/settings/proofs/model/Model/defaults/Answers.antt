@@ -1,7 +1,6 @@
 -- Each number is the default of its row.
 use mathlib.Core.List.{[], ◌∷◌}
 use lib.ListN.{replicate}
-use borrow.Author.Rules.{rules}
 use Rattle.settings.specs.Table.{stored_entry, default_switching}
 use Rattle.settings.proofs.model.Model.defaults.Goals as goal
 

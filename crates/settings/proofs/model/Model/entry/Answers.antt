@@ -1,5 +1,4 @@
 -- The mnemonic tells the case.
-use borrow.Author.Rules.{rules}
 use Rattle.settings.proofs.model.Model.entry.Goals as goal
 
 pub returns-in-OfReplying : goal.returns-in-OfReplying

@@ -1,6 +1,5 @@
 -- The test tells the unit's most.
 use mathlib.Core.Path.{sym, ◌∙◌}
-use borrow.Author.Rules.{rules}
 use Rattle.settings.proofs.model.Model.factor.Goals as goal
 
 pub returns-then-is_older : goal.returns-then-is_older

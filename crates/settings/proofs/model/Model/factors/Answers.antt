@@ -1,5 +1,4 @@
 -- So many factors.
-use borrow.Author.Rules.{rules}
 use Rattle.settings.proofs.model.Model.factors.Goals as goal
 
 pub returns : goal.returns

@@ -1,5 +1,4 @@
 -- No field: a row of no numbers.
-use borrow.Author.Rules.{rules}
 use Rattle.settings.proofs.model.Model.fieldless.Goals as goal
 
 pub returns : goal.returns

@@ -1,5 +1,4 @@
 -- A mnemonic that has a reply is there if its channel is.
-use borrow.Author.Rules.{rules}
 use Rattle.settings.proofs.model.Model.has.Goals as goal
 
 pub returns-in-OfReplying : goal.returns-in-OfReplying

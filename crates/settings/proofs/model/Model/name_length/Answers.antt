@@ -5,7 +5,6 @@ use mathlib.Core.Path.{◌≡◌, sym, ap, ◌∙◌}
 use mathlib.Core.List.{List}
 use mathlib.Core.Bool.{Bool, true, false, cond}
 use lib.ListN.{length, get_or}
-use borrow.Author.Rules.{rules}
 use Rattle.settings.specs.Kinds.{kind_name}
 use Rattle.settings.proofs.KindNames.{newer_lengths, older_lengths, name_lengths, no_name}
 use Rattle.settings.proofs.model.Model.name_length.Goals as goal

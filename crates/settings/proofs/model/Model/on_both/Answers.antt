@@ -1,5 +1,4 @@
 -- The column of the unit, as a row.
-use borrow.Author.Rules.{rules}
 use Rattle.settings.proofs.model.Model.on_both.Goals as goal
 
 pub returns : goal.returns

@@ -1,5 +1,4 @@
 -- The older unit lacks it.
-use borrow.Author.Rules.{rules}
 use Rattle.settings.proofs.model.Model.on_newer.Goals as goal
 
 pub returns : goal.returns

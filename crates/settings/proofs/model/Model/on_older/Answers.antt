@@ -1,5 +1,4 @@
 -- The other units lack it.
-use borrow.Author.Rules.{rules}
 use Rattle.settings.proofs.model.Model.on_older.Goals as goal
 
 pub returns : goal.returns

@@ -1,5 +1,4 @@
 -- One whole number.
-use borrow.Author.Rules.{rules}
 use Rattle.settings.proofs.model.Model.once.Goals as goal
 
 pub returns : goal.returns

@@ -1,5 +1,4 @@
 -- As many numbers as channels.
-use borrow.Author.Rules.{rules}
 use Rattle.settings.proofs.model.Model.per_channel.Goals as goal
 
 pub returns : goal.returns

@@ -1,5 +1,4 @@
 -- The numbers of the default of a row.
-use borrow.Author.Rules.{rules}
 use Rattle.settings.proofs.model.Model.preset.Goals as goal
 
 pub returns : goal.returns

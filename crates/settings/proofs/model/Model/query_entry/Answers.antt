@@ -1,5 +1,4 @@
 -- The query tells the case.
-use borrow.Author.Rules.{rules}
 use Rattle.settings.proofs.model.Model.query_entry.Goals as goal
 
 pub returns-in-Sps : goal.returns-in-Sps

@@ -1,5 +1,4 @@
 -- The mnemonic tells the case.
-use borrow.Author.Rules.{rules}
 use Rattle.settings.proofs.model.Model.replying_entry.Goals as goal
 
 pub returns-in-OfSetting : goal.returns-in-OfSetting

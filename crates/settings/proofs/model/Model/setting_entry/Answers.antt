@@ -1,5 +1,4 @@
 -- The setting tells the case.
-use borrow.Author.Rules.{rules}
 use Rattle.settings.proofs.model.Model.setting_entry.Goals as goal
 
 pub returns-in-Uni : goal.returns-in-Uni

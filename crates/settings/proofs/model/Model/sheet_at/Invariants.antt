@@ -1,16 +1,10 @@
 -- The line that is left to find among those from j on is the line of the whole sheet.
-use Prim.Native.Nat.{ℕ, ◌+◌, ◌≤◌, ◌-◌}
-use mathlib.Core.Path.{◌≡◌, refl, sym, ap, ◌∙◌}
-use mathlib.Core.Bool.{Bool, cond, ◌&&◌}
-use lib.ListN.{get_or, drop, drop_of_length-le}
-use lib.Dec.{eqb}
-use native.Mathlib.Omega.{arith}
-use borrow.Author.Rules.{rules}
+use Prim.Native.Nat.{◌≤◌, ◌-◌}
+use mathlib.Core.Path.{◌≡◌}
+use lib.ListN.{get_or, drop}
 use Rattle.ground.specs.Members.{those}
-use Rattle.settings.specs.Mnemonics.{settings_held, takes, sheet, sheet_at}
-use Rattle.settings.specs.declared.mnemonic.Setting.{Setting}
+use Rattle.settings.specs.Mnemonics.{settings_held, takes, sheet_at}
 use Rattle.settings.specs.declared.mnemonic.Setting.TheVariants.{Uni}
-use Rattle.settings.proofs.Sheets.{line_here, line_behind}
 use Rattle.settings.proofs.model.Model.sheet_at.Given as goal
 
 abbrev pub invariant-loop-j : goal.invariant-loop-j

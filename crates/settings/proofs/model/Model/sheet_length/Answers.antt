@@ -1,6 +1,5 @@
 -- How many lines are computed for each unit (`sheet-counts`).
 use mathlib.Core.Path.{sym, ◌∙◌}
-use borrow.Author.Rules.{rules}
 use Rattle.settings.proofs.Sheets.{sheet_counts}
 use Rattle.settings.proofs.model.Model.sheet_length.Goals as goal
 

@@ -1,5 +1,4 @@
 -- Of the assignments that follow no channel, the one that is always on.
-use borrow.Author.Rules.{rules}
 use Rattle.settings.proofs.model.Model.starts_on.Goals as goal
 
 pub returns : goal.returns

@@ -1,6 +1,5 @@
 -- Each arm is a row of the table, and past the last there is none (`others-past`, `stored_past`).
 use mathlib.Core.Path.{◌∙◌, sym, ap}
-use borrow.Author.Rules.{rules}
 use native.Mathlib.Omega.{arith}
 use Rattle.settings.proofs.Tabled.{stored_past}
 use Rattle.settings.specs.Table.{on, stored_entry}

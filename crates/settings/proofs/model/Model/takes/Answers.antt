@@ -1,5 +1,4 @@
 -- The count of its fields.
-use borrow.Author.Rules.{rules}
 use Rattle.settings.proofs.model.Model.takes.Goals as goal
 
 pub returns : goal.returns

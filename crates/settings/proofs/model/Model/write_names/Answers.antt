@@ -1,5 +1,4 @@
 -- The names of the model that the match told.
-use borrow.Author.Rules.{rules}
 use Rattle.settings.proofs.model.Model.write_names.Goals as goal
 
 pub returns-in-Tpg361 : goal.returns-in-Tpg361

@@ -26,7 +26,7 @@ settings_held =
 abbrev pub takes : Model → Setting → Bool
 takes model x = ltb 0 ((setting_entry x).fields model).count
 
--- the sheet: those that the model takes; W-201: "UNI FIL CAL DCD SP1 to SP4 PUC DIC SCT WDT TLC LOC, fourteen lines" (`sheet-names`)
+-- the sheet: those that the model takes; W-201: "UNI FIL CAL DCD SP1 to SP4 PUC DIC SCT WDT TLC LOC, fourteen lines" (`sheet_names`)
 unfoldable pub sheet : Model → List Setting
 sheet model = those (takes model) settings_held
 

@@ -74,7 +74,7 @@ impl State {
         self.with_answer(Answer::BrokenState)
     }
 
-    // The ticks of a box that has room for a line of the stream at each (`stream-length`); no tick changes the line.
+    // The ticks of a box that has room for a line of the stream at each (`stream_length`); no tick changes the line.
     fn advance(self, count: u8, out: &mut [u8]) -> Outcome
         requires { least_output * count ≤ length out.old }
         ensures { (result ≡ all_counted self count) × (out.new ≡ over (ticks_text self count) out.old) }

@@ -33,7 +33,7 @@ impl State {
         let mut taken: usize = 0;
         let mut written: usize = 0;
         while taken < input.len() {
-            // nothing sent for a byte is longer (`event-length`): with this room no reply is cut
+            // nothing sent for a byte is longer (`event_length`): with this room no reply is cut
             if out.len() - written < State::LEAST_OUTPUT {
                 return finished(instrument, port, taken, written);
             }

@@ -1,4 +1,4 @@
--- `shown::write_shown`: the status, a comma and the value's bytes; one digit is the whole number (`whole-digit`).
+-- `shown::write_shown`: the status, a comma and the value's bytes; one digit is the whole number (`whole_digit`).
 use mathlib.Core.Path.{ap, ◌∙◌}
 use mathlib.Core.List.{◌∷◌}
 use borrow.Author.Rules.{rules}

@@ -1,4 +1,4 @@
--- The first channel, and behind a comma the second where there is one (`puts-two`, `puts_one`).
+-- The first channel, and behind a comma the second where there is one (`puts_two`, `puts_one`).
 use mathlib.Core.Path.{◌≡◌, ap, ◌∙◌}
 use native.Mathlib.Omega.{arith}
 use lib.ListN.{length}

@@ -1,4 +1,4 @@
--- The field before a comma, the last one, or none to be read (`taken_next`, `taken-last`, `taken_not`).
+-- The field before a comma, the last one, or none to be read (`taken_next`, `taken_last`, `taken_not`).
 use Rattle.lines.proofs.Walking.{taken_not, taken_next, taken_last}
 use Rattle.lines.proofs.fields.take_field.Goals as goal
 

@@ -1,4 +1,4 @@
--- What the word before the first comma names decides what the whole line is (`line-named`).
+-- What the word before the first comma names decides what the whole line is (`line_named`).
 use mathlib.Core.Path.{sym, ◌∙◌}
 use native.Mathlib.Omega.{arith}
 use Rattle.settings.specs.declared.mnemonic.Named.TheVariants.{Known, Unknown}

@@ -1,4 +1,4 @@
--- As many fields as the mnemonic takes are judged (`fields-judged`); any other number is refused (`fields-wrong`).
+-- As many fields as the mnemonic takes are judged (`fields_judged`); any other number is refused (`fields_wrong`).
 use mathlib.Core.Path.{sym, ◌∙◌}
 use Rattle.lines.proofs.Walking.{fields_judged, fields_wrong}
 use Rattle.lines.proofs.judging.judge_fields.Goals as goal

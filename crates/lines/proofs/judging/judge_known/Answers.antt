@@ -1,4 +1,4 @@
--- A comma behind the mnemonic, none, or a channel that the model lacks (`known_more`, `known_alone`, `known-not`).
+-- A comma behind the mnemonic, none, or a channel that the model lacks (`known_more`, `known_alone`, `known_not`).
 use mathlib.Core.Path.{sym, ◌∙◌}
 use lib.ListN.{drop}
 use Rattle.lines.specs.Splitting.{fields}

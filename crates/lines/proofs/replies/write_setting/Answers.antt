@@ -1,4 +1,4 @@
--- The cells one after the other (`setting-written`); a setting that the model has no field for has no text.
+-- The cells one after the other (`setting_written`); a setting that the model has no field for has no text.
 use mathlib.Core.Path.{sym, ap, ◌∙◌}
 use lib.Dec.{ltb}
 use Rattle.text.specs.Page.{Page, page, puts}

@@ -1,4 +1,4 @@
--- Four digits, as the word has them (`word-digits`).
+-- Four digits, as the word has them (`word_digits`).
 use mathlib.Core.Path.{◌∙◌, ap}
 use Rattle.text.specs.Page.{page, puts}
 use Rattle.lines.proofs.Worded.{word_digits}

@@ -1,4 +1,4 @@
--- The parts of the factors are small, so that their products are carried (`factor-part`).
+-- The parts of the factors are small, so that their products are carried (`factor_part`).
 use native.Mathlib.Omega.{arith}
 use Rattle.numbers.proofs.UnitFactors.{factor_part}
 use Rattle.numbers.proofs.units.factor_between.Goals as goal

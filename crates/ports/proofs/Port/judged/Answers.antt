@@ -1,4 +1,4 @@
--- What is judged is the part of the places that the line holds (`held-part`).
+-- What is judged is the part of the places that the line holds (`held_part`).
 use Prim.Native.Nat.{ℕ}
 use mathlib.Core.Path.{◌≡◌, sym, ap, ◌∙◌}
 use lib.ListN.{length, take}

@@ -1,4 +1,4 @@
--- The space and the characters behind it are one range (`typed-range`).
+-- The space and the characters behind it are one range (`typed_range`).
 use Rattle.ports.proofs.Characters.{typed_range}
 use Rattle.ports.proofs.typing.is_typed.Goals as goal
 

@@ -1,4 +1,4 @@
--- The row counts its fields (`count-kinds`), and so many cells are written.
+-- The row counts its fields (`count_kinds`), and so many cells are written.
 use mathlib.Core.Path.{sym, ap}
 use Prim.Native.Nat.{ℕ}
 use Rattle.settings.specs.Rows.{mixed, row, with_row}

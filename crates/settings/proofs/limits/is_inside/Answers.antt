@@ -1,4 +1,4 @@
--- A signed local is its number again (`to_z-of_z`), and no more and no less than 0 is 0 (`same-order`).
+-- A signed local is its number again (`to_z-of_z`), and no more and no less than 0 is 0 (`same_order`).
 use lib.IntN.{pos}
 use mir.Syntax.{w32}
 use mir.Val.{SFits}

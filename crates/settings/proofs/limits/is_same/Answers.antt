@@ -1,4 +1,4 @@
--- Both exponents are their numbers again (`to_z-of_z`), and no more and no less is the same (`same-order`).
+-- Both exponents are their numbers again (`to_z-of_z`), and no more and no less is the same (`same_order`).
 use mir.Syntax.{w32}
 use mir.Val.{SFits}
 use mir.Facts.{to_z-of_z}

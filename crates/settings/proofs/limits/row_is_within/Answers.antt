@@ -1,4 +1,4 @@
--- The three places, one after the other (`row-placed`).
+-- The three places, one after the other (`row_placed`).
 use Rattle.settings.proofs.Places.{row_placed}
 use Rattle.settings.proofs.limits.row_is_within.Goals as goal
 

@@ -1,4 +1,4 @@
--- The first are the settings (`at-setting`), and behind them stand the others (`at_other`).
+-- The first are the settings (`at_setting`), and behind them stand the others (`at_other`).
 use mathlib.Core.Path.{ap, ◌∙◌}
 use Rattle.settings.specs.Mnemonics.{setting}
 use Rattle.settings.proofs.Names.{at_setting, at_other}

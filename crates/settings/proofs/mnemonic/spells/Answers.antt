@@ -1,4 +1,4 @@
--- The three letters of a name are tested one by one (`three-same`).
+-- The three letters of a name are tested one by one (`three_same`).
 use mathlib.Core.Path.{◌≡◌}
 use lib.ListN.{length}
 use borrow.Author.Rules.{rules}

@@ -1,4 +1,4 @@
--- The four functions are all that the list has (`entries-all`).
+-- The four functions are all that the list has (`entries_all`).
 use mathlib.Core.Path.{◌≡◌, ap, subst}
 use mathlib.Core.List.{map}
 use lib.ListN.{length, get_or}

@@ -1,4 +1,4 @@
--- Each cell is that of a where its place is below n, and that of b elsewhere (`mixed-is`).
+-- Each cell is that of a where its place is below n, and that of b elsewhere (`mixed_is`).
 use Rattle.settings.proofs.Storing.{mixed_is}
 use Rattle.settings.proofs.rows.mixed.Goals as goal
 

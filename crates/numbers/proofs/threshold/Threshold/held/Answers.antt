@@ -1,4 +1,4 @@
--- The exponent tells whether a number of five digits lies beyond an end stop (`held-least`, `held-most`, `held_stays`).
+-- The exponent tells whether a number of five digits lies beyond an end stop (`held_least`, `held_most`, `held_stays`).
 use borrow.Author.Rules.{rules}
 use mir.Syntax.{w32}
 use mir.Val.{SFits}

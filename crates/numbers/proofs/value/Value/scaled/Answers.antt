@@ -1,4 +1,4 @@
--- `Value::scaled`: by one the value stays as it is (`scaled-one`).
+-- `Value::scaled`: by one the value stays as it is (`scaled_one`).
 use mathlib.Core.Bool.{and-eq-true_iff}
 use borrow.Author.Tests.{eqb-true}
 use lib.Dec.{eqb}

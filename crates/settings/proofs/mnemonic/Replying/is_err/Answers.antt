@@ -1,4 +1,4 @@
--- No setting is named ERR (`setting-not-err`), and of the queries only one.
+-- No setting is named ERR (`setting_not_err`), and of the queries only one.
 use Rattle.settings.proofs.Answerable.{setting_not_err}
 use Rattle.settings.specs.Mnemonics.{same, is_err}
 use Rattle.settings.proofs.mnemonic.Replying.is_err.Goals as goal

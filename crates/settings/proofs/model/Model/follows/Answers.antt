@@ -1,4 +1,4 @@
--- The channel's number, from the first assignment that follows one on (`first-few`: the sum fits).
+-- The channel's number, from the first assignment that follows one on (`first_few`: the sum fits).
 use Prim.Native.Nat.{◌≤◌}
 use borrow.Author.Rules.{rules}
 use Rattle.settings.proofs.Every.{first_few}

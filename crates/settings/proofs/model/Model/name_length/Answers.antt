@@ -1,4 +1,4 @@
--- The lengths of a unit's names (`name-lengths`); no kind has no name (`no_name`).
+-- The lengths of a unit's names (`name_lengths`); no kind has no name (`no_name`).
 -- the list of the unit that the test told
 use Prim.Native.Nat.{ℕ}
 use mathlib.Core.Path.{◌≡◌, sym, ap, ◌∙◌}

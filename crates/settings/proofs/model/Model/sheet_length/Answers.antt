@@ -1,4 +1,4 @@
--- How many lines are computed for each unit (`sheet-counts`).
+-- How many lines are computed for each unit (`sheet_counts`).
 use mathlib.Core.Path.{sym, ◌∙◌}
 use Rattle.settings.proofs.Sheets.{sheet_counts}
 use Rattle.settings.proofs.model.Model.sheet_length.Goals as goal

@@ -1,4 +1,4 @@
--- The row of the switching function, or none (`switching-there`, `switching-past`).
+-- The row of the switching function, or none (`switching_there`, `switching_past`).
 use Rattle.settings.proofs.Tabled.{switching_there, switching_past}
 use Rattle.settings.proofs.model.Model.switching_entry.Goals as goal
 

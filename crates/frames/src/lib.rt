@@ -1,5 +1,6 @@
 // The frames of the bench: one input line to one output line.
 #![tactic(auto)]
+
 ghost use Rattle.std.specs.Prelude.{◌≡◌, length};
 ghost use Rattle.tpg.specs.Steps.{over};
 ghost use Rattle.frames.specs.Frames.{answer_call, answer_line};

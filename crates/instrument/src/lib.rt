@@ -1,5 +1,6 @@
 // What all hosts share of a box: its model and serial number, its settings and saved set, its readings and its switches.
 #![tactic(auto)]
+
 use gauges::reading::Reading;
 use settings::Settings;
 use settings::model::Model;

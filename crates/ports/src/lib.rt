@@ -1,5 +1,6 @@
 // What one host owns of a box: its line, its selection, its error word and its stream.
 #![tactic(auto)]
+
 use lines::verdict::Verdict;
 use lines::word::Word;
 use settings::mnemonic::Replying;

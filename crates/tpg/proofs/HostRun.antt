@@ -163,7 +163,7 @@ typed_run {s} {input} {out₀} {instrument} {port} {out} {t} {w} (b ∷ bs) g fr
     (λ typed.
     let one = silent g (quiet (typed_one port b)) more free (rw here (sym (typed_heard instrument.model port b typed))) refl in
     let n : (t + 1) + length (typing bs) ≡ t + length (b ∷ typing bs) = omega arith in
-    rw n at (typed_run bs one free rest)) (λ _. rw (add-zero t) g)
+    rw n at (typed_run {port = (quiet (typed_one port b)).port} bs one free rest)) (λ _. rw (add-zero t) g)
 
 module _ {s : State} {input out₀ : List ℕ} {instrument : Instrument} {port : Port} {out : List ℕ} {t w : ℕ} (g : Going s input out₀ instrument port out t w) (r : Typed)
     (e : r ≡ record { port = typed_all port (typing (drop t input)); at = t + length (typing (drop t input)) }) where

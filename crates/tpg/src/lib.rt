@@ -1,5 +1,6 @@
 // The box: its state, and the calls that take it by value and hand it back.
 #![tactic(auto)]
+
 ghost use Rattle.std.specs.Prelude.{◌≡◌};
 ghost use Rattle.tpg.specs.States.{state_within, started_box};
 

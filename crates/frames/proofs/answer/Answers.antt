@@ -14,7 +14,7 @@ returns-then-out-lt-LONGEST_LINE c =
     (c.handed.ensures ∙ h.0, h.1)
 
 pub slice_bounds-take-end : goal.slice_bounds-take-end
-slice_bounds-take-end c = sym (length-take-le c.read-len.result c.read-len.new.1.0 (omega (arith, c.read-len.ensures.0, c.read-len.auto.1.0)))
+slice_bounds-take-end c = sym (length-take-le c.read-len.result c.read-len.new.bytes (omega (arith, c.read-len.ensures.0, c.read-len.auto.bytes)))
 
 pub spread-written-requires : goal.spread-written-requires
 spread-written-requires c =

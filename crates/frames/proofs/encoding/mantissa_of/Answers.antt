@@ -11,7 +11,7 @@ use Rattle.numbers.proofs.Signed.{small, zero_minus, abs_neg}
 use Rattle.frames.proofs.encoding.mantissa_of.Goals as goal
 use Rattle.frames.proofs.encoding.mantissa_of.Goals.{Start}
 
-abbrev made : tie.Start → ℕ
+abbrev made : goal.Start → ℕ
 made c = c.args.high * 65536 + c.args.middle * 256 + c.args.low
 
 three : (c : goal.Start) → made c < 2 ^ 24

@@ -18,12 +18,6 @@ bounds-out-i c =
     let s = c.loop-i.invariant in
     omega (arith, s.low, s.same, s.room, c.loop-i-test.true)
 
-pub overflow_cast-byte : goal.overflow_cast-byte
-overflow_cast-byte c = omega (arith, c.slice_known-1.given (c.loop-i.i - 1))
-
-pub bounds-digits-byte : goal.bounds-digits-byte
-bounds-digits-byte c = omega (arith, c.slice_known-1.given (c.loop-i.i - 1))
-
 pub overflow_mul-out : goal.overflow_mul-out
 overflow_mul-out c = omega (arith, c.loop-i.invariant.low, c.requires)
 

@@ -15,7 +15,7 @@ returns-then-frame-le1 c =
     let m = c.mantissa_of-mantissa in
     let e = c.exponent_of-exponent in
     c.frame_outcome.ensures ∙ ap told_call c.reading.ensures
-    ∙ reading_told a.state a.frame.now _ _ c.if-frame-le1.true (to_z-of_z {w = w32} (record { sfits = m.type-inv }) ∙ m.ensures) (to_z-of_z {w = w32} (record { sfits = e.type-inv }) ∙ e.ensures)
+    ∙ reading_told a.state a.frame.now _ _ c.if-frame-le1.true (to_z-of_z {w = w32} (record { sfits = m.type_inv }) ∙ m.ensures) (to_z-of_z {w = w32} (record { sfits = e.type_inv }) ∙ e.ensures)
 
 pub returns : goal.returns
 unfolding reading_frame

@@ -19,6 +19,6 @@ returns-then-s-lt10 c =
 pub returns : goal.returns
 returns c =
     let a = c.args in
-    let q = page c.whole-a.new.0 c.whole-a.result in
+    let q = page c.whole-a.new.out c.whole-a.result in
     let value = c.append-2.ensures ∙ ap (λ r. puts r c.value_bytes-b.result) c.put-c.ensures ∙ ap (λ l. puts q (44 ∷ l)) c.value_bytes-b.ensures in
     then (page a.out.now a.at) (whole_text a.s.status) (44 ∷ value_text a.s.value) c.whole-a.ensures value

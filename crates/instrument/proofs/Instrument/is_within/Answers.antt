@@ -12,7 +12,7 @@ pub returns : goal.returns
 unfolding instrument_within
 returns c =
     let a = c.args in
-    let n : length a.self.readings ≡ 2 = sym (length-map a.self.readings _) ∙ c.well-formed.0.1.1.1.1.1.1.0.1.0.1 in
+    let n : length a.self.readings ≡ 2 = search rules in
     let first = c.reading_is_within-first.ensures ∙ ap (reading_within a.self.model 0) (entry a.self.readings _ no_reading 0 (omega arith)) in
     let second = c.reading_is_within-second.ensures ∙ ap (reading_within a.self.model 1) (entry a.self.readings _ no_reading 1 (omega arith)) in
     rw (c.switches_are_within-switched.ensures, second, first, c.is_within-kept.ensures, c.is_within-present.ensures)

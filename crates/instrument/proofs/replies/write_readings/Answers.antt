@@ -17,7 +17,7 @@ both c = search rules
 
 -- the first channel's reading, as it was written
 first : (c : goal.After-write_shown-first)
-    → page c.write_shown-first.new.0 c.write_shown-first.result
+    → page c.write_shown-first.new.out c.write_shown-first.result
     ≡ puts (page c.args.out.now c.args.at) (shown_at c.args.unit c.args.readings 0)
 first c =
     let a = c.args in
@@ -32,7 +32,7 @@ returns-then-channels-gt1 c =
     let all = both (goal.at.returns-then-channels-gt1 c).After-write_shown-first in
     let text = shown_at a.unit a.readings in
     let second = c.shown-then-channels-gt1.ensures ∙ ap (λ r. shown_of r a.unit) (entry a.readings _ no_reading 1 (omega (arith, all))) in
-    c.write_shown.ensures ∙ ap (λ s. puts (page c.put-next.new.0 c.put-next.result) (shown_text s)) second
+    c.write_shown.ensures ∙ ap (λ s. puts (page c.put-next.new.out c.put-next.result) (shown_text s)) second
     ∙ ap (λ (r : Page). puts r (text 1)) (c.put-next.ensures ∙ ap (λ (r : Page). put r 44) (first (goal.at.returns-then-channels-gt1 c).After-write_shown-first))
     ∙ puts_two a.model text (page a.out.now a.at) n.result n.ensures c.if-channels-gt1.true
 

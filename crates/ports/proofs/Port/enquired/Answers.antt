@@ -1,6 +1,7 @@
 -- An empty line keeps its selection; without one, and on any other line, line and word are dropped.
+use mathlib.Core.Path.{ap, sym}
 use borrow.Author.Rules.{rules}
-use Rattle.ports.specs.Hearing.{asked}
+use Rattle.ports.specs.Hearing.{asked, by_selection}
 use Rattle.ports.proofs.Port.enquired.Goals as goal
 
 pub returns-in-Nothing : goal.returns-in-Nothing
@@ -9,7 +10,8 @@ returns-in-Nothing c = rw (c.dropped.ensures, c.none.ensures, ← c.is_empty.ens
 
 pub returns-in-Chosen : goal.returns-in-Chosen
 unfolding asked
-returns-in-Chosen c = rw (c.replied.ensures, ← c.is_empty.ensures, c.if-is_empty.true, c.in-Chosen.is)
+returns-in-Chosen c =
+    rw (c.replied.ensures, ← c.is_empty.ensures, c.if-is_empty.true) (ap (λ x. (by_selection c.args.self x).port) (sym c.in-Chosen.is))
 
 pub returns-else-is_empty : goal.returns-else-is_empty
 unfolding asked

@@ -17,7 +17,9 @@ slice_bounds-line-end c =
 
 pub slice_bounds-judge-end : goal.slice_bounds-judge-end
 slice_bounds-judge-end c =
-    sym (length-take-le c.held-n.result c.args.self.line (array-share-prefix-line c))
+    let p = c.args.self in
+    let e : length p.line ≡ 80 = search rules in
+    sym (length-take-le c.held-n.result p.line (omega (arith, c.held-n.ensures, count_fits p)))
 
 pub returns : goal.returns
 returns c =

@@ -13,21 +13,21 @@ loop-i-init c = start _ _ _
 pub returns-then-not-is_typed : goal.returns-then-not-is_typed
 returns-then-not-is_typed c =
     rw c.gathered.ensures
-    (ended c.loop-i.invariant (typing_other _ _ c.loop-i-test.true (sym c.is_typed.ensures ∙ not-true _ c.if-not-is_typed.true)))
+    (ended c.loop-i.invariant (typing_other _ _ c.loop-i-test.true (sym c.is_typed.ensures ∙ c.if-not-is_typed.true)))
 
 pub loop-i-preserved-then-len-lt-PLACES : goal.loop-i-preserved-then-len-lt-PLACES
 loop-i-preserved-then-len-lt-PLACES c =
-    longer c.loop-i.invariant c.loop-i-test.true (sym c.is_typed.ensures ∙ not-false _ c.if-not-is_typed.false)
+    longer c.loop-i.invariant c.loop-i-test.true (sym c.is_typed.ensures ∙ c.if-not-is_typed.false)
     c.if-b-bad.true c.if-len-lt-PLACES.true
 
 pub loop-i-preserved-else-len-lt-PLACES : goal.loop-i-preserved-else-len-lt-PLACES
 loop-i-preserved-else-len-lt-PLACES c =
-    spoils c.loop-i.invariant c.loop-i-test.true (sym c.is_typed.ensures ∙ not-false _ c.if-not-is_typed.false)
+    spoils c.loop-i.invariant c.loop-i-test.true (sym c.is_typed.ensures ∙ c.if-not-is_typed.false)
     c.if-b-bad.true c.if-len-lt-PLACES.false
 
 pub loop-i-preserved : goal.loop-i-preserved
 loop-i-preserved c =
-    kept c.loop-i.invariant c.loop-i-test.true (sym c.is_typed.ensures ∙ not-false _ c.if-not-is_typed.false) c.if-b-bad.false
+    kept c.loop-i.invariant c.loop-i-test.true (sym c.is_typed.ensures ∙ c.if-not-is_typed.false) c.if-b-bad.false
 
 pub returns : goal.returns
 returns c = rw c.gathered-2.ensures (ended c.loop-i.invariant (typing_end _ _ c.loop-i-test.false))

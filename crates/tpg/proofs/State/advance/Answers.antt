@@ -18,20 +18,19 @@ loop-i-init c =
     let a = c.args in
     let text = stream_text a.self.instrument in
     let short = stream_length a.self.instrument in
-    let w = copied text _ k.new.1.0 0 k.result k.ensures (omega (arith, short)) in
-    (omega (arith, short, w.0), search rules, fronted text _ k.new.1.0 k.result k.ensures (omega (arith, short)), start a.self a.count a.out.now)
+    let w = copied text _ k.new.out 0 k.result k.ensures (omega (arith, short)) in
+    (omega (arith, short, w.0), search rules, fronted text _ k.new.out k.result k.ensures (omega (arith, short)), start a.self a.count a.out.now)
 
 pub slice_bounds-append-end : goal.slice_bounds-append-end
 slice_bounds-append-end c =
     let l = c.loop-i in
     let k = c.stream_line-n in
-    let low : k.result ≤ length k.new.1.0 = omega (arith, l.invariant.0, l.invariant.1) in
-    sym (length-take k.result k.new.1.0 ∙ min-eq_left low)
+    let low : k.result ≤ length k.new.out = omega (arith, l.invariant.0, l.invariant.1) in
+    sym (length-take k.result k.new.out ∙ min-eq_left low)
 
 pub loop-i-preserved-then-t : goal.loop-i-preserved-then-t
 loop-i-preserved-then-t c =
-    let l = c.loop-i in
-    (
+    let l = c.loop-i in (
       l.invariant.0,
       l.invariant.1,
       l.invariant.2,

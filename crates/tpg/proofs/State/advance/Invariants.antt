@@ -13,7 +13,7 @@ use Rattle.tpg.proofs.Ticking.{Counting, start, due, idle, ended, length_kept}
 use Rattle.tpg.proofs.State.advance.Given as goal
 
 abbrev pub invariant-loop-i : goal.invariant-loop-i
-invariant-loop-i l = (l.n ≤ 64) × (length l.line ≡ 64) × (take l.n l.line ≡ stream_text l.instrument) × Counting (record { l.instrument = l.instrument; l.port = l.initial.port }) l.count l.initial.out l.port l.out l.i l.written
+invariant-loop-i l = (l.n ≤ 64) × (length l.line ≡ 64) × (take l.n l.line ≡ stream_text l.instrument) × Counting (record { instrument = l.instrument; port = l.initial.port }) l.count l.initial.out l.port l.out l.i l.written
 
 abbrev pub decreases-loop-i : goal.decreases-loop-i
 decreases-loop-i l = l.count - l.i

@@ -1,6 +1,5 @@
 -- What is left to take from here is what was left at the start, less what was taken.
 use mathlib.Core.Path.{◌≡◌, refl, sym, ◌∙◌}
-use mathlib.Core.Logic.{⊎_elim}
 use Prim.Native.Nat.{◌-◌, ◌<◌}
 use native.Mathlib.Omega.{arith}
 use borrow.Author.Rules.{rules}
@@ -11,6 +10,7 @@ use Rattle.tpg.specs.Answers.{least_output}
 use Rattle.tpg.specs.Steps.{event_text}
 use Rattle.tpg.proofs.HostRun.{Going, start, silent, answered, typed, farther, ended, length_kept, taken_full, taken_end}
 use Rattle.tpg.proofs.State.run.Goals as goal
+use Rattle.tpg.proofs.State.run.Goals.{then-repeats, else-repeats}
 
 pub loop-taken-init : goal.loop-taken-init
 loop-taken-init c =
@@ -42,9 +42,6 @@ pub loop-taken-preserved-then-is_typed : goal.loop-taken-preserved-then-is_typed
 loop-taken-preserved-then-is_typed c =
     typed c.loop-taken.invariant c.typed-typed.result c.typed-typed.ensures c.if-out-written-lt-LEAST_OUTPUT.false
 
-pub overflow_add-taken : goal.overflow_add-taken
-overflow_add-taken c = omega (arith, c.well-formed.1.0.0)
-
 pub loop-taken-smaller-then-b-eq-ENQ : goal.loop-taken-smaller-then-b-eq-ENQ
 loop-taken-smaller-then-b-eq-ENQ c = omega (arith, c.loop-taken-test.true)
 
@@ -52,7 +49,10 @@ pub loop-taken-preserved-then-b-eq-ENQ : goal.loop-taken-preserved-then-b-eq-ENQ
 unfolding event_text
 loop-taken-preserved-then-b-eq-ENQ c =
     let port : c.if-repeats.port ≡ (asked c.settled-asking.result).port =
-    ⊎_elim (λ w. w.1 ∙ repeats_stays c.settled-asking.result (sym c.repeats.ensures ∙ w.0.taken)) (λ w. w.2 ∙ w.1.ensures) c.if-repeats.branch in
+    elim c.if-repeats.branch [
+      | then-repeats w ↦ w.port-is ∙ repeats_stays c.settled-asking.result (sym c.repeats.ensures ∙ w.if-repeats.true)
+      | else-repeats w ↦ w.port-is ∙ w.enquired-next.ensures
+    ] in
     answered c.loop-taken.invariant _ c.loop-taken-test.true c.if-out-written-lt-LEAST_OUTPUT.false
     (enq_heard _ _ _ _ _ _ c.if-b-eq-ENQ.true c.settled-asking.ensures c.enquiry-m.ensures port) _ _ _ _ refl refl c.reply-written.ensures
 

@@ -1,8 +1,6 @@
 -- What was read, taken and turned, one after the other.
 use mathlib.Core.Path.{sym, ◌∙◌}
 use native.Mathlib.Omega.{arith}
-use borrow.Author.Rules.{rules}
-use lib.ListN.{take}
 use lib.Seq.{length-take-le}
 use Rattle.frames.proofs.Answering.{refused, few, kept, answered}
 use Rattle.frames.proofs.answer.Goals as goal

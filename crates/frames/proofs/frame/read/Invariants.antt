@@ -1,14 +1,6 @@
 -- The pairs read so far are the first bytes; the rest of the line is read from here.
-use mathlib.Core.Bool.{and-eq-true_iff}
-use Prim.Native.Nat.{◌-◌, ◌/◌}
-use mathlib.Core.Path.{◌≡◌, sym, ◌∙◌}
-use native.Mathlib.Omega.{arith}
-use borrow.Author.Rules.{rules}
-use borrow.Author.Tests.{ltb-true}
-use lib.ListN.{length}
-use lib.Dec.{ltb}
-use Rattle.text.proofs.HexDigits.{odd_not_hex}
-use Rattle.frames.proofs.HexReading.{Read, start, step, spoilt, ended, not_read, too_long}
+use Prim.Native.Nat.{◌-◌}
+use Rattle.frames.proofs.HexReading.{Read}
 use Rattle.frames.proofs.frame.read.Given as goal
 
 abbrev pub invariant-loop-i : goal.invariant-loop-i

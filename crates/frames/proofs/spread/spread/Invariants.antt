@@ -1,10 +1,5 @@
 -- From the last byte on each is turned into its digits; the bytes before it still stand.
-use Prim.Native.Nat.{ℕ, suc, ◌-◌, ◌*◌, ◌+◌}
-use mathlib.Core.Path.{◌≡◌, refl, subst}
-use native.Mathlib.Omega.{arith}
-use lib.ListN.{length-set}
-use Rattle.text.specs.Hex.{digit_of}
-use Rattle.frames.proofs.Spreading.{Spread, start, step, ended}
+use Rattle.frames.proofs.Spreading.{Spread}
 use Rattle.frames.proofs.spread.spread.Given as goal
 
 abbrev pub invariant-loop-i : goal.invariant-loop-i

@@ -1,5 +1,4 @@
 -- A frame without bytes reads as 0.
-use borrow.Author.Rules.{rules}
 use Rattle.frames.proofs.Calling.{no_first}
 use Rattle.frames.proofs.taking.first_of.Goals as goal
 

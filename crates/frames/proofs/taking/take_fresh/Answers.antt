@@ -1,7 +1,6 @@
 -- The box is replaced only by one that was made.
 use Prim.Native.Nat.{ℕ}
 use mathlib.Core.Path.{ap, ◌∙◌}
-use borrow.Author.Rules.{rules}
 use Rattle.tpg.specs.Calls.{fresh_call}
 use Rattle.frames.proofs.Calling.{fresh_taken, fresh_kept}
 use Rattle.frames.proofs.taking.take_fresh.Goals as goal

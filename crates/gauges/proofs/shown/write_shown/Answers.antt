@@ -1,7 +1,6 @@
 -- `shown::write_shown`: the status, a comma and the value's bytes; one digit is the whole number (`whole_digit`).
 use mathlib.Core.Path.{ap, ◌∙◌}
 use mathlib.Core.List.{◌∷◌}
-use borrow.Author.Rules.{rules}
 use Rattle.text.specs.Digits.{whole_text}
 use Rattle.text.specs.Page.{page, puts}
 use Rattle.text.proofs.Pages.{then}

@@ -1,5 +1,4 @@
 -- The verdict tells the case, and only a line that writes changes anything.
-use borrow.Author.Rules.{rules}
 use Rattle.instrument.proofs.Instrument.applied.Goals as goal
 
 pub returns-in-Writes : goal.returns-in-Writes

@@ -1,6 +1,6 @@
 -- Each callee gives one part of `instrument_within`; both readings stand in the array, so what stands for a missing one is the same (`entry`).
-use mathlib.Core.Path.{◌≡◌, sym, ap, ◌∙◌}
-use lib.ListN.{length, length-map}
+use mathlib.Core.Path.{◌≡◌, ap, ◌∙◌}
+use lib.ListN.{length}
 use borrow.Author.Rules.{rules}
 use native.Mathlib.Omega.{arith}
 use Rattle.ground.proofs.Tables.{entry}

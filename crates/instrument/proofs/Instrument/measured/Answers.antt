@@ -1,5 +1,4 @@
 -- The callees give the readings and each switch as `taken` has them.
-use borrow.Author.Rules.{rules}
 use Rattle.instrument.specs.Events.{measured}
 use Rattle.instrument.proofs.Instrument.measured.Goals as goal
 

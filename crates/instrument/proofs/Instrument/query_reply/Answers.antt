@@ -1,5 +1,4 @@
 -- The text of the query and then the end of the line.
-use borrow.Author.Rules.{rules}
 use Rattle.text.specs.Page.{page}
 use Rattle.text.specs.Control.{cr_lf}
 use Rattle.text.proofs.Pages.{then}

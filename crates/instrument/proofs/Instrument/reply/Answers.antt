@@ -1,6 +1,5 @@
 -- The mnemonic tells the case.
 use mathlib.Core.Path.{◌∙◌}
-use borrow.Author.Rules.{rules}
 use Rattle.instrument.specs.Replies.{reply_text}
 use Rattle.instrument.proofs.Instrument.reply.Goals as goal
 

@@ -1,6 +1,5 @@
 -- Only SAV saves, by its field.
 use borrow.Author.Tests.{eq-eqb, ne_eqb}
-use borrow.Author.Rules.{rules}
 use Rattle.instrument.proofs.Instrument.saved_by.Goals as goal
 
 pub returns-then-a-eq0 : goal.returns-then-a-eq0

@@ -1,5 +1,4 @@
 -- The settings are the saved set, there is no reading, and each switch is as its assignment starts.
-use borrow.Author.Rules.{rules}
 use Rattle.instrument.proofs.Instrument.started.Goals as goal
 
 pub returns : goal.returns

@@ -1,5 +1,4 @@
 -- Only SPx moves a switch.
-use borrow.Author.Rules.{rules}
 use Rattle.instrument.proofs.Instrument.switches_by.Goals as goal
 
 pub returns-in-Sp : goal.returns-in-Sp

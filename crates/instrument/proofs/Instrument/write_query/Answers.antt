@@ -1,6 +1,5 @@
 -- The query tells the case, and the callee of each writes its text.
 use mathlib.Core.Path.{◌∙◌}
-use borrow.Author.Rules.{rules}
 use Rattle.instrument.proofs.Instrument.write_query.Goals as goal
 
 pub returns-in-Sps : goal.returns-in-Sps

@@ -1,5 +1,4 @@
 -- The callees give the settings, the saved set and the switches as `written` has them.
-use borrow.Author.Rules.{rules}
 use Rattle.instrument.specs.Events.{written}
 use Rattle.instrument.proofs.Instrument.written.Goals as goal
 

@@ -1,6 +1,5 @@
 -- The test is `follows` itself, which the callee gives: what the shown value switches to, or what was.
 use mathlib.Core.Path.{sym, ◌∙◌}
-use borrow.Author.Rules.{rules}
 use Rattle.instrument.proofs.events.follow.Goals as goal
 
 pub returns-then-follows : goal.returns-then-follows

@@ -1,5 +1,4 @@
 -- The callees give the limits of a reading and the number of channels.
-use borrow.Author.Rules.{rules}
 use Rattle.instrument.proofs.limits.reading_is_within.Goals as goal
 
 pub returns : goal.returns

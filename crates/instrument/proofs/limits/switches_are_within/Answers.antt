@@ -1,5 +1,4 @@
 -- The callee tells of each of the four whether it agrees with its assignment.
-use borrow.Author.Rules.{rules}
 use Rattle.instrument.proofs.limits.switches_are_within.Goals as goal
 
 pub returns : goal.returns

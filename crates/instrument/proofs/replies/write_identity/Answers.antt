@@ -1,6 +1,5 @@
 -- The names, a comma, the serial number and the versions one after the other.
 use mathlib.Core.Path.{ap, ◌∙◌}
-use borrow.Author.Rules.{rules}
 use Rattle.text.specs.Page.{Page, put, puts}
 use Rattle.text.specs.Digits.{padded_text}
 use Rattle.text.proofs.Pages.{puts_append}

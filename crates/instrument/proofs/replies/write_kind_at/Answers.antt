@@ -1,6 +1,5 @@
 -- The name of the kind of the reading at that place.
 use mathlib.Core.Path.{◌∙◌}
-use borrow.Author.Rules.{rules}
 use Rattle.instrument.proofs.replies.write_kind_at.Goals as goal
 
 pub returns : goal.returns

@@ -1,6 +1,5 @@
 -- The first channel, and behind a comma the second where there is one (`puts_two`, `puts_one`).
 use mathlib.Core.Path.{ap, ◌∙◌}
-use borrow.Author.Rules.{rules}
 use Rattle.text.specs.Page.{Page, page, put, puts}
 use Rattle.instrument.specs.Replies.{kind_at}
 use Rattle.instrument.proofs.Channels.{puts_two, puts_one}

@@ -1,6 +1,5 @@
 -- The text of the reading at that place, shown in the unit chosen.
 use mathlib.Core.Path.{◌∙◌}
-use borrow.Author.Rules.{rules}
 use Rattle.instrument.proofs.replies.write_reading.Goals as goal
 
 pub returns : goal.returns

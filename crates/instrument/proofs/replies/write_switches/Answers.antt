@@ -1,6 +1,5 @@
 -- Four digits with a comma between.
 use mathlib.Core.Path.{◌∙◌}
-use borrow.Author.Rules.{rules}
 use Rattle.instrument.proofs.replies.write_switches.Goals as goal
 
 pub returns : goal.returns

@@ -1,5 +1,4 @@
 -- What the mnemonic selects, with the error word as it was.
-use borrow.Author.Rules.{rules}
 use Rattle.ports.proofs.Port.accepted.Goals as goal
 
 pub returns : goal.returns

@@ -1,5 +1,4 @@
 -- The event is what `enquiry` tells and the port what `enquired` leaves, both of the port as it came.
-use borrow.Author.Rules.{rules}
 use Rattle.ports.proofs.Port.asked.Goals as goal
 
 pub returns : goal.returns

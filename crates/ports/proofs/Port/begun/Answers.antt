@@ -1,5 +1,4 @@
 -- Only COM begins a stream.
-use borrow.Author.Rules.{rules}
 use Rattle.ports.proofs.Port.begun.Goals as goal
 
 pub returns-in-Com : goal.returns-in-Com

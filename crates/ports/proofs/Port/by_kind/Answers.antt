@@ -1,5 +1,4 @@
 -- Each arm is one clause of `by_kind`; all but CR and ENQ are quiet.
-use borrow.Author.Rules.{rules}
 use Rattle.ports.specs.Hearing.{by_kind}
 use Rattle.ports.proofs.Port.by_kind.Goals as goal
 

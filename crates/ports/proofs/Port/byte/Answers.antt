@@ -1,5 +1,4 @@
 -- An LF straight after a CR only clears the mark; any other byte settles the port and is taken by its kind (`heard`).
-use borrow.Author.Rules.{rules}
 use Rattle.ports.specs.Hearing.{heard}
 use Rattle.ports.proofs.Port.byte.Goals as goal
 

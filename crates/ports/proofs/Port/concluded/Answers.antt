@@ -1,5 +1,4 @@
 -- Each arm is one clause of `concluded`; only a line that writes can begin the stream.
-use borrow.Author.Rules.{rules}
 use Rattle.ports.specs.Hearing.{concluded}
 use Rattle.ports.proofs.Port.concluded.Goals as goal
 

@@ -1,5 +1,4 @@
 -- The line is judged as it stands, then emptied, marked and concluded, as in the definition.
-use borrow.Author.Rules.{rules}
 use Rattle.ports.proofs.Port.cr_heard.Goals as goal
 
 pub returns : goal.returns

@@ -1,5 +1,4 @@
 -- The line emptied, no selection, and the error word that is given.
-use borrow.Author.Rules.{rules}
 use Rattle.ports.proofs.Port.dropped.Goals as goal
 
 pub returns : goal.returns

@@ -1,6 +1,5 @@
 -- An empty line keeps its selection; without one, and on any other line, line and word are dropped.
 use mathlib.Core.Path.{ap, sym}
-use borrow.Author.Rules.{rules}
 use Rattle.ports.specs.Hearing.{asked, by_selection}
 use Rattle.ports.proofs.Port.enquired.Goals as goal
 

@@ -1,5 +1,4 @@
 -- An empty line asks for the selection; without one, and on any other line, the error word is asked for.
-use borrow.Author.Rules.{rules}
 use Rattle.ports.specs.Hearing.{asked}
 use Rattle.ports.proofs.Port.enquiry.Goals as goal
 

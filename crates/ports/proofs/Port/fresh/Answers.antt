@@ -1,5 +1,4 @@
 -- Each field is the definition's, by what the callees ensure.
-use borrow.Author.Rules.{rules}
 use Rattle.ports.proofs.Port.fresh.Goals as goal
 
 pub returns : goal.returns

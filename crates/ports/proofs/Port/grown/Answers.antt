@@ -1,6 +1,5 @@
 -- The tests are the definition's: bad, room for one more, full.
 use borrow.Author.Tests.{lt-ltb, le-ltb}
-use borrow.Author.Rules.{rules}
 use Rattle.ports.specs.Line.{grown}
 use Rattle.ports.proofs.Port.grown.Goals as goal
 

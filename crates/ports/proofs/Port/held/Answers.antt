@@ -1,6 +1,5 @@
 -- The smaller of the length and eighty, by the two ways of the test.
 use native.Mathlib.Nat.{min-eq_left, min-eq_right, le_of_lt}
-use borrow.Author.Rules.{rules}
 use Rattle.ports.proofs.Port.held.Goals as goal
 
 pub returns-then-self-lt-PLACES : goal.returns-then-self-lt-PLACES

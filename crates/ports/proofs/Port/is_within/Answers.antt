@@ -1,5 +1,4 @@
 -- The three tests are the definition's.
-use borrow.Author.Rules.{rules}
 use Rattle.ports.specs.Limits.{port_within}
 use Rattle.ports.proofs.Port.is_within.Goals as goal
 

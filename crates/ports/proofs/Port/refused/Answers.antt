@@ -1,5 +1,4 @@
 -- No selection, and the error word with the digit of the fault set.
-use borrow.Author.Rules.{rules}
 use Rattle.ports.proofs.Port.refused.Goals as goal
 
 pub returns : goal.returns

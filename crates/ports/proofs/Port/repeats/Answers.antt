@@ -1,7 +1,6 @@
 -- The selection tells the case; without one nothing answers (`and-false`).
 use mathlib.Core.Path.{sym}
 use mathlib.Core.Bool.{and-false}
-use borrow.Author.Rules.{rules}
 use Rattle.ports.specs.Line.{is_empty}
 use Rattle.ports.proofs.Port.repeats.Goals as goal
 

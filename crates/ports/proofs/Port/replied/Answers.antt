@@ -1,5 +1,4 @@
 -- The test is the definition's; only ERR takes the word away.
-use borrow.Author.Rules.{rules}
 use Rattle.ports.proofs.Port.replied.Goals as goal
 
 pub returns-then-is_err : goal.returns-then-is_err

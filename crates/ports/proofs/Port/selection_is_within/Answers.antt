@@ -1,5 +1,4 @@
 -- Each arm is one clause of `selection_within`.
-use borrow.Author.Rules.{rules}
 use Rattle.ports.proofs.Port.selection_is_within.Goals as goal
 
 pub returns-in-Chosen : goal.returns-in-Chosen

@@ -1,5 +1,4 @@
 -- The mark cleared, then the stream stopped.
-use borrow.Author.Rules.{rules}
 use Rattle.ports.proofs.Port.settled.Goals as goal
 
 pub returns : goal.returns

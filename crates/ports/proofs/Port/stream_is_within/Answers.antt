@@ -1,5 +1,4 @@
 -- The tests are the definition's, over what the intervals are.
-use borrow.Author.Rules.{rules}
 use Rattle.ports.proofs.Port.stream_is_within.Goals as goal
 
 pub returns : goal.returns

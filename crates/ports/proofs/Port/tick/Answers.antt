@@ -1,7 +1,6 @@
 -- The interval is not 0, so that what is below one less than it is, with one more, below it.
 use Prim.Native.Nat.{◌+◌}
 use borrow.Author.Tests.{lt-ltb, le-ltb, eq-eqb, ne_eqb}
-use borrow.Author.Rules.{rules}
 use native.Mathlib.Omega.{arith}
 use Rattle.ports.specs.Stream.{ticked}
 use Rattle.ports.proofs.Port.tick.Goals as goal

@@ -1,10 +1,6 @@
 -- What is left to type from the place i on, with the line so far, is what was to type from the start.
 use mathlib.Core.Path.{sym, ◌∙◌}
-use Prim.Native.Nat.{◌-◌}
-use borrow.Author.Rules.{rules}
-use borrow.Author.Tests.{not-true, not-false}
-use lib.ListN.{length}
-use Rattle.ports.proofs.Characters.{Gathering, start, kept, longer, spoils, ended, typing_other, typing_end}
+use Rattle.ports.proofs.Characters.{start, kept, longer, spoils, ended, typing_other, typing_end}
 use Rattle.ports.proofs.Port.typed.Goals as goal
 
 pub loop-i-init : goal.loop-i-init

@@ -1,10 +1,7 @@
 -- What is left to type from the place i on, with the line so far, is what was to type from the start.
-use mathlib.Core.Path.{sym, ◌∙◌}
 use Prim.Native.Nat.{◌-◌}
-use borrow.Author.Rules.{rules}
-use borrow.Author.Tests.{not-true, not-false}
 use lib.ListN.{length}
-use Rattle.ports.proofs.Characters.{Gathering, start, kept, longer, spoils, ended, typing_other, typing_end}
+use Rattle.ports.proofs.Characters.{Gathering}
 use Rattle.ports.proofs.Port.typed.Given as goal
 
 abbrev pub invariant-loop-i : goal.invariant-loop-i

@@ -1,11 +1,8 @@
 -- What was found up to the place i, with the test from i to b, is the test from a to b.
-use Prim.Native.Nat.{◌-◌}
-use mathlib.Core.Path.{◌≡◌, refl, sym, ◌∙◌}
-use mathlib.Core.Bool.{◌&&◌}
-use lib.ListN.{length, take, drop}
+use mathlib.Core.Path.{◌≡◌, sym, ◌∙◌}
+use lib.ListN.{length}
 use borrow.Author.Rules.{rules}
 use native.Mathlib.Omega.{arith}
-use Rattle.ground.specs.Members.{every}
 use Rattle.ground.specs.Ranges.{in_range}
 use Rattle.ground.proofs.Ranges.{range_next, range_end}
 use Rattle.ports.proofs.limits.all_within.Goals as goal

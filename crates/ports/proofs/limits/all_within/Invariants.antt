@@ -1,13 +1,10 @@
 -- What was found up to the place i, with the test from i to b, is the test from a to b.
 use Prim.Native.Nat.{◌-◌}
-use mathlib.Core.Path.{◌≡◌, refl, sym, ◌∙◌}
+use mathlib.Core.Path.{◌≡◌}
 use mathlib.Core.Bool.{◌&&◌}
-use lib.ListN.{length, take, drop}
-use borrow.Author.Rules.{rules}
-use native.Mathlib.Omega.{arith}
+use lib.ListN.{take, drop}
 use Rattle.ground.specs.Members.{every}
 use Rattle.ground.specs.Ranges.{in_range}
-use Rattle.ground.proofs.Ranges.{range_next, range_end}
 use Rattle.ports.proofs.limits.all_within.Given as goal
 
 abbrev pub invariant-loop-i : goal.invariant-loop-i

@@ -1,5 +1,4 @@
 -- The callee tells whether the state is within; the test of the room is that of `admits`.
-use borrow.Author.Rules.{rules}
 use Rattle.tpg.specs.Calls.{admits}
 use Rattle.tpg.proofs.State.admits.Goals as goal
 

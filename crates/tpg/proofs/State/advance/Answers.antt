@@ -1,15 +1,15 @@
 -- The line of the stream is made once, since ticks change the port alone.
-use mathlib.Core.Path.{◌≡◌, ap, sym, ◌∙◌}
+use mathlib.Core.Path.{ap, sym, ◌∙◌}
 use native.Mathlib.Nat.{min-eq_left}
-use Prim.Native.Nat.{◌-◌, ◌≤◌}
+use Prim.Native.Nat.{◌≤◌}
 use native.Mathlib.Omega.{arith}
-use lib.ListN.{length, take, length-take}
+use lib.ListN.{length, length-take}
 use borrow.Author.Rules.{rules}
 use Rattle.text.specs.Page.{page, puts}
 use Rattle.instrument.specs.Replies.{stream_text}
 use Rattle.instrument.proofs.Lengths.{stream_length}
 use Rattle.tpg.proofs.Laying.{copied, fronted}
-use Rattle.tpg.proofs.Ticking.{Counting, start, due, idle, ended, length_kept}
+use Rattle.tpg.proofs.Ticking.{start, due, idle, ended, length_kept}
 use Rattle.tpg.proofs.State.advance.Goals as goal
 
 pub loop-i-init : goal.loop-i-init

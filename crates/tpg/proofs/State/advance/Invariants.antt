@@ -1,15 +1,9 @@
 -- The line of the stream is made once, since ticks change the port alone.
-use mathlib.Core.Path.{◌≡◌, ap, sym, ◌∙◌}
-use native.Mathlib.Nat.{min-eq_left}
+use mathlib.Core.Path.{◌≡◌}
 use Prim.Native.Nat.{◌-◌, ◌≤◌}
-use native.Mathlib.Omega.{arith}
-use lib.ListN.{length, take, length-take}
-use borrow.Author.Rules.{rules}
-use Rattle.text.specs.Page.{page, puts}
+use lib.ListN.{length, take}
 use Rattle.instrument.specs.Replies.{stream_text}
-use Rattle.instrument.proofs.Lengths.{stream_length}
-use Rattle.tpg.proofs.Laying.{copied, fronted}
-use Rattle.tpg.proofs.Ticking.{Counting, start, due, idle, ended, length_kept}
+use Rattle.tpg.proofs.Ticking.{Counting}
 use Rattle.tpg.proofs.State.advance.Given as goal
 
 abbrev pub invariant-loop-i : goal.invariant-loop-i

@@ -1,6 +1,5 @@
 -- The number gives the model or none; the serial number is tested where there is a model.
 use borrow.Author.Tests.{le-leb, lt-leb}
-use borrow.Author.Rules.{rules}
 use Rattle.tpg.specs.Calls.{fresh_call}
 use Rattle.tpg.proofs.State.fresh.Goals as goal
 

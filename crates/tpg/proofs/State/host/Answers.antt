@@ -1,6 +1,5 @@
 -- Bytes that are admitted are run over; any other call is turned away.
 use mathlib.Core.Path.{sym, ◌∙◌}
-use borrow.Author.Rules.{rules}
 use lib.ListN.{length}
 use Rattle.tpg.specs.Answers.{least_output}
 use Rattle.tpg.specs.Calls.{hosted, host_text}

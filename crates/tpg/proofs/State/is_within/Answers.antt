@@ -1,5 +1,4 @@
 -- The limits of the instrument and those of the port are together those of the state (`state_within`).
-use borrow.Author.Rules.{rules}
 use Rattle.tpg.specs.States.{state_within}
 use Rattle.tpg.proofs.State.is_within.Goals as goal
 

@@ -1,6 +1,5 @@
 -- The state is tested first; then the box starts again with its saved set.
 use mathlib.Core.Path.{sym, ◌∙◌}
-use borrow.Author.Rules.{rules}
 use Rattle.tpg.specs.Calls.{cycle_call}
 use Rattle.tpg.proofs.Deciding.{without_output}
 use Rattle.tpg.proofs.State.power_cycle.Goals as goal

@@ -3,7 +3,6 @@ use mathlib.Core.Path.{◌≡◌, sym, ◌∙◌}
 use mathlib.Core.Bool.{true, false, and-eq-true_iff}
 use mir.Facts.{to_z-of_z}
 use borrow.Author.Tests.{leb-true}
-use borrow.Author.Rules.{rules}
 use Rattle.tpg.specs.Calls.{is_channel}
 use Rattle.tpg.proofs.Deciding.{without_output, unsound, elsewhere, outside, accepted}
 use Rattle.tpg.proofs.State.reading.Goals as goal

@@ -2,13 +2,12 @@
 use mathlib.Core.Path.{◌≡◌, refl, sym, ◌∙◌}
 use Prim.Native.Nat.{◌-◌, ◌<◌}
 use native.Mathlib.Omega.{arith}
-use borrow.Author.Rules.{rules}
 use lib.ListN.{length}
 use Rattle.ports.specs.Hearing.{asked}
 use Rattle.ports.proofs.Characters.{enq_heard, repeats_stays}
 use Rattle.tpg.specs.Answers.{least_output}
 use Rattle.tpg.specs.Steps.{event_text}
-use Rattle.tpg.proofs.HostRun.{Going, start, silent, answered, typed, farther, ended, length_kept, taken_full, taken_end}
+use Rattle.tpg.proofs.HostRun.{start, silent, answered, typed, farther, ended, length_kept, taken_full, taken_end}
 use Rattle.tpg.proofs.State.run.Goals as goal
 use Rattle.tpg.proofs.State.run.Goals.{then-repeats, else-repeats}
 

@@ -1,5 +1,4 @@
 -- The instrument started with the saved set, and a fresh port.
-use borrow.Author.Rules.{rules}
 use Rattle.tpg.proofs.State.start.Goals as goal
 
 pub returns : goal.returns

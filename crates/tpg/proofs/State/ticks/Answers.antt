@@ -1,7 +1,6 @@
 -- Ticks that are admitted are counted; any other call is turned away.
 use Prim.Native.Nat.{◌*◌}
 use mathlib.Core.Path.{sym, ◌∙◌}
-use borrow.Author.Rules.{rules}
 use lib.ListN.{length}
 use Rattle.tpg.specs.Answers.{least_output}
 use Rattle.tpg.specs.Calls.{all_counted, ticks_text}

@@ -1,6 +1,5 @@
 -- The state is tested again, and told before the output.
 use mathlib.Core.Path.{sym, ◌∙◌}
-use borrow.Author.Rules.{rules}
 use Rattle.tpg.specs.Calls.{turned_away}
 use Rattle.tpg.proofs.State.turned_away.Goals as goal
 

@@ -1,5 +1,4 @@
 -- The instrument takes the reading, the port stays as it was, and the counts are 0.
-use borrow.Author.Rules.{rules}
 use Rattle.tpg.proofs.State.with_reading.Goals as goal
 
 pub returns : goal.returns

@@ -1,5 +1,4 @@
 -- A box started with the defaults of its model, handed back with the answer.
-use borrow.Author.Rules.{rules}
 use Rattle.tpg.proofs.calls.made.Goals as goal
 
 pub returns : goal.returns

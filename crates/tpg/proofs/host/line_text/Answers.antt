@@ -1,6 +1,5 @@
 -- The verdict tells the case.
 use mathlib.Core.Path.{◌∙◌}
-use borrow.Author.Rules.{rules}
 use Rattle.tpg.proofs.host.line_text.Goals as goal
 
 pub returns-in-Asks : goal.returns-in-Asks

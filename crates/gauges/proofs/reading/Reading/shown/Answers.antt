@@ -1,5 +1,4 @@
 -- `Reading::shown`: what is to be shown, scaled.
-use borrow.Author.Rules.{rules}
 use Rattle.gauges.proofs.reading.Reading.shown.Goals as goal
 
 pub returns : goal.returns

@@ -2,7 +2,6 @@
 use mathlib.Core.Path.{◌≡◌, refl, sym, ◌∙◌}
 use mathlib.Core.Bool.{Bool, true, false, cond, not, ◌&&◌}
 use borrow.Author.Tests.{eq-eqb, ne_eqb}
-use borrow.Author.Rules.{rules}
 use Rattle.numbers.specs.Numbers.{is_above}
 use Rattle.gauges.specs.Shown.{switched}
 use Rattle.gauges.proofs.shown.Shown.switches.Goals as goal

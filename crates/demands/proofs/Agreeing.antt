@@ -1,5 +1,5 @@
 -- What the demands fix: a program that meets them sends what the box sends, in every conversation of lines and ENQs.
-use Prim.Native.Nat.{ℕ, ◌+◌}
+use Prim.Native.Nat.{ℕ}
 use mathlib.Core.Path.{◌≡◌, refl, sym, ap, ap₂, ◌∙◌}
 use mathlib.Core.List.{List, [], ◌∷◌, ◌++◌, flat_map, append_cancel_right}
 use mathlib.Core.Bool.{true}

@@ -1,5 +1,5 @@
 -- One byte of the host, and a run of bytes (01, "Bytes from the host" and "Answer numbers of the calls").
-use Rattle.std.specs.Prelude.{ℕ, suc, ◌+◌, ◌-◌, List, [], ◌∷◌, ◌++◌, cond, length, drop, leb}
+use Rattle.std.specs.Prelude.{ℕ, suc, ◌-◌, List, [], ◌∷◌, ◌++◌, cond, length, drop, leb}
 use Rattle.text.specs.Control.{ack, nak, cr_lf}
 use Rattle.lines.specs.declared.verdict.Verdict.{Verdict}
 use Rattle.lines.specs.declared.verdict.Verdict.TheVariants.{Asks, Writes, Refused}

@@ -1,11 +1,8 @@
 -- The lines from here on are those that are left of the block.
-use Prim.Native.Nat.{◌-◌}
 use mathlib.Core.Path.{sym, ◌∙◌}
 use native.Mathlib.Omega.{arith}
-use borrow.Author.Rules.{rules}
-use lib.ListN.{length}
 use lib.Seq.{length-take-le}
-use Rattle.bench.proofs.WholeBlocks.{Writing, start, text_inside, ended, step}
+use Rattle.bench.proofs.WholeBlocks.{start, text_inside, ended, step}
 use Rattle.bench.proofs.answer_block.Goals as goal
 
 pub loop-answered-init : goal.loop-answered-init
@@ -41,7 +38,7 @@ slice_bounds-send-end-in-loop-answered c =
 pub overflow_add-from : goal.overflow_add-from
 overflow_add-from c =
     let a = c.answer_lines-answered in
-    omega (arith, (step c.loop-answered.invariant a.result a.new.out a.ensures a.auto.out).low, c.well-formed.1.0.0)
+    omega (arith, (step c.loop-answered.invariant a.result a.new.out a.ensures a.auto.out).low)
 
 pub loop-answered-smaller : goal.loop-answered-smaller
 loop-answered-smaller c =

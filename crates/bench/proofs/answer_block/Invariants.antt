@@ -1,11 +1,7 @@
 -- The lines from here on are those that are left of the block.
 use Prim.Native.Nat.{◌-◌}
-use mathlib.Core.Path.{sym, ◌∙◌}
-use native.Mathlib.Omega.{arith}
-use borrow.Author.Rules.{rules}
 use lib.ListN.{length}
-use lib.Seq.{length-take-le}
-use Rattle.bench.proofs.WholeBlocks.{Writing, start, text_inside, ended, step}
+use Rattle.bench.proofs.WholeBlocks.{Writing}
 use Rattle.bench.proofs.answer_block.Given as goal
 
 abbrev pub invariant-loop-answered : goal.invariant-loop-answered

@@ -1,10 +1,7 @@
 -- What is answered from here on is what was to be answered at the start.
-use Prim.Native.Nat.{◌-◌}
 use mathlib.Core.Path.{refl}
 use native.Mathlib.Omega.{arith}
-use borrow.Author.Rules.{rules}
-use lib.ListN.{length}
-use Rattle.bench.proofs.Answering.{Answering, start, no_room, no_line, to_inside, step}
+use Rattle.bench.proofs.Answering.{start, no_room, no_line, to_inside, step}
 use Rattle.bench.proofs.answer_lines.Goals as goal
 
 pub loop-to-init : goal.loop-to-init
@@ -39,7 +36,7 @@ slice_bounds-answer-start-in-loop-to c = omega (arith, c.loop-to.invariant.insid
 pub overflow_add-at : goal.overflow_add-at
 overflow_add-at c =
     let g = step c.loop-to.invariant c.loop-to-test.true c.if-out-at-lt-LONGEST_LINE.false c.answer-answered.result c.answer-answered.new.out c.answer-answered.ensures _ refl in
-    omega (arith, g.inside, g.same, c.well-formed.1.1.0.0)
+    omega (arith, g.inside, g.same)
 
 pub overflow_add-from : goal.overflow_add-from
 overflow_add-from c =

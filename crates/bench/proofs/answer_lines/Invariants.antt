@@ -1,10 +1,7 @@
 -- What is answered from here on is what was to be answered at the start.
 use Prim.Native.Nat.{◌-◌}
-use mathlib.Core.Path.{refl}
-use native.Mathlib.Omega.{arith}
-use borrow.Author.Rules.{rules}
 use lib.ListN.{length}
-use Rattle.bench.proofs.Answering.{Answering, start, no_room, no_line, to_inside, step}
+use Rattle.bench.proofs.Answering.{Answering}
 use Rattle.bench.proofs.answer_lines.Given as goal
 
 abbrev pub invariant-loop-to : goal.invariant-loop-to

@@ -1,7 +1,6 @@
 -- The bytes moved so far, and the rest of the block as it was.
 use Prim.Native.Nat.{◌-◌}
-use native.Mathlib.Omega.{arith}
-use Rattle.bench.proofs.Blocks.{Kept, start, step}
+use Rattle.bench.proofs.Blocks.{Kept}
 use Rattle.bench.proofs.keep.Given as goal
 
 abbrev pub invariant-loop-i : goal.invariant-loop-i

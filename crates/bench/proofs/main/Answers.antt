@@ -1,12 +1,8 @@
 -- The buffers keep their size, and the line that is kept its bound.
-use Prim.Native.Nat.{◌≤◌}
-use mathlib.Core.Path.{◌≡◌, sym, ◌∙◌}
+use mathlib.Core.Path.{sym, ◌∙◌}
 use native.Mathlib.Omega.{arith}
 use borrow.Author.Rules.{rules}
-use lib.ListN.{length}
 use lib.Seq.{length-take-le}
-use Rattle.bench.specs.Walk.{most_kept}
-use Rattle.bench.proofs.Blocks.{block_size}
 use Rattle.bench.proofs.WholeBlocks.{left_inside, written_few}
 use Rattle.bench.proofs.main.Goals as goal
 

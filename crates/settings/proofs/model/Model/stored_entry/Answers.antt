@@ -1,4 +1,4 @@
--- Each arm is a row of the table, and past the last there is none (`others_past`, `stored_past`).
+-- Each arm is a row of the table, and past the last there is none (`stored_past`).
 use mathlib.Core.Path.{◌∙◌, sym, ap}
 use native.Mathlib.Omega.{arith}
 use Rattle.settings.proofs.Tabled.{stored_past}

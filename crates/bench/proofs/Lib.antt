@@ -1,4 +1,3 @@
-pub mod Blocks
 pub mod Finished
 pub mod Answering
 pub mod WholeBlocks

@@ -17,7 +17,7 @@ use tpg::State;
 // Of an unfinished line so much is kept: one digit more than the longest frame has, so that it stays too long.
 const KEPT: usize = 2 * LONGEST_FRAME + 1;
 
-// The box, where the first line that is not answered begins, and how much of the output is still to be written.
+// The box, where the first line that is not answered begins (0 where none was), and how much is still to be written.
 #[derive(Clone, Copy)]
 struct BlockOutcome {
     pub state: State,
@@ -33,6 +33,7 @@ fn answer_lines(state: State, block: &[u8], out: &mut [u8]) -> BlockOutcome
     let mut from: usize = 0;
     let mut at: usize = 0;
     let mut to = end_of(block, 0, LF);
+    // by hand: the place goes from mark to mark, and the loop stops where the output has no room
     while to < block.len() {
         if out.len() - at < LONGEST_LINE {
             return BlockOutcome {
@@ -42,8 +43,7 @@ fn answer_lines(state: State, block: &[u8], out: &mut [u8]) -> BlockOutcome
             };
         }
         let answered = frames::answer(now, &block[from..to], &mut out[at..]);
-        let next = answered.state;
-        now = next;
+        now = answered.state;
         at += answered.written;
         from = to + 1;
         to = end_of(block, from, LF);
@@ -57,10 +57,7 @@ fn answer_lines(state: State, block: &[u8], out: &mut [u8]) -> BlockOutcome
 
 // The bytes to standard output; where no one takes them they are lost, and the box goes on.
 fn send(output: &mut Stdout, bytes: &[u8]) {
-    match output.write_all(bytes) {
-        Ok(()) => {}
-        Err(_) => {}
-    }
+    let _ = output.write_all(bytes);
 }
 
 // Every finished line of a block answered, in as few writes as the output's room allows.
@@ -70,6 +67,7 @@ fn answer_block(output: &mut Stdout, state: State, block: &[u8], out: &mut [u8])
 {
     let mut now = state;
     let mut from: usize = 0;
+    // by hand: the place moves by as many lines as the output had room for
     loop {
         let answered = answer_lines(now, &block[from..], out);
         if answered.from == 0 {
@@ -79,10 +77,8 @@ fn answer_block(output: &mut Stdout, state: State, block: &[u8], out: &mut [u8])
                 written: 0,
             };
         }
-        let written = answered.written;
-        send(output, &out[..written]);
-        let next = answered.state;
-        now = next;
+        send(output, &out[..answered.written]);
+        now = answered.state;
         from += answered.from;
     }
 }
@@ -92,15 +88,9 @@ fn keep(block: &mut [u8], from: usize, end: usize) -> usize
     requires { (from ≤ end) × (end ≤ length block.old) }
     ensures { (result ≡ kept_count from end) × (take result block.new ≡ take result (drop from block.old)) }
 {
-    let mut i: usize = 0;
-    while i < KEPT {
-        if end - from <= i {
-            return i;
-        }
-        block[i] = block[from + i];
-        i += 1;
-    }
-    i
+    let count = (end - from).min(KEPT);
+    block.copy_within(from..from + count, 0);
+    count
 }
 
 // More input behind the line that is kept; where the block then ends. A read that fails is the end of the input.
@@ -108,33 +98,26 @@ fn fill(input: &mut Stdin, block: &mut [u8], held: usize) -> usize
     requires { held ≤ length block.old }
     ensures { (held ≤ result) × (result ≤ length block.new) }
 {
-    match input.read(&mut block[held..]) {
-        Ok(got) => held + got,
-        Err(_) => held,
-    }
+    held + input.read(&mut block[held..]).unwrap_or(0)
 }
 
 fn main(rt: HostRuntime) {
     let mut input = rt.stdin();
     let mut output = rt.stdout();
-    let fresh = State::fresh(362, 0);
-    let mut state = fresh.state;
+    let mut state = State::fresh(362, 0).state;
+    // two buffers with their counts, and no BufReader: one write answers a block, and nothing is allocated
     let mut block = [0u8; 65536];
     let mut out = [0u8; 65536];
     let mut held: usize = 0;
     // a proved loop has to end, and nothing says that the input does
-    let mut turns = u64::MAX;
-    while turns > 0 {
+    for _ in 0..u64::MAX {
         let end = fill(&mut input, &mut block, held);
         if end == held {
-            turns = 0;
-        } else {
-            let answered = answer_block(&mut output, state, &block[..end], &mut out);
-            let next = answered.state;
-            state = next;
-            held = keep(&mut block, answered.from, end);
-            turns -= 1;
+            break;
         }
+        let answered = answer_block(&mut output, state, &block[..end], &mut out);
+        state = answered.state;
+        held = keep(&mut block, answered.from, end);
     }
     // the last line may lack its end
     if 0 < held {

@@ -1,4 +1,5 @@
 -- Demand 1: what every call answers, what a refusal leaves alone, and the limits that every state keeps (01, "Answer numbers of the calls").
+use Rattle.std.specs.Prelude.{Option, Some, None, Ok, Err}
 use Prim.Native.Nat.{ℕ, zero, suc, ◌-◌, ◌*◌}
 use mathlib.Core.Path.{◌≡◌, refl, sym, ap, subst, ◌∙◌}
 use mathlib.Core.List.{List, [], ◌∷◌}
@@ -14,11 +15,7 @@ use Rattle.gauges.specs.declared.reading.Reading.{Reading}
 use Rattle.settings.specs.Models.{model_of}
 use Rattle.settings.specs.declared.model.Model.{Model}
 use Rattle.settings.specs.declared.model.Model.TheVariants.{Tpg361, Tpg362, Tpg262}
-use Rattle.settings.specs.declared.model.Numbered.{Numbered}
-use Rattle.settings.specs.declared.model.Numbered.TheVariants.{One, NoModel}
 use Rattle.lines.specs.Judging.{judged}
-use Rattle.lines.specs.declared.verdict.Verdict.{Verdict}
-use Rattle.lines.specs.declared.verdict.Verdict.TheVariants.{Asks, Writes, Refused}
 use Rattle.ports.specs.Line.{held}
 use Rattle.ports.specs.declared.Event.{Event}
 use Rattle.ports.proofs.PortLimits.{heard_event}
@@ -38,6 +35,8 @@ use Rattle.tpg.proofs.StateLimits.{after_model}
 use Rattle.demands.specs.Calls.{Call, byte, host, reading, tick, ticks, cycle, outcome, call_bytes, Refusal, refuses, lent, refusals, fresh_refusals, first_given, after_calls}
 use Rattle.demands.specs.Wire.{nak_line, by_cr, ended}
 use Rattle.demands.specs.Sheets.{Boxes}
+use Rattle.lines.specs.declared.verdict.Order.TheVariants.{Asks, Writes}
+use Rattle.lines.specs.Verdicts.{Verdict}
 
 -- ---- the table
 
@@ -92,7 +91,7 @@ module _ (s : State) where
 pub table_holds : (s : State) (c : Call) → number (outcome s c).answer ≡ first_given (refusals s c)
 table_holds s c = (in_table s c).0
 
-made_number : (model : Model) (serial : ℕ) → number (made (One model) serial).answer ≡ cond (ltb 99999999 serial) 2 0
+made_number : (model : Model) (serial : ℕ) → number (made (Some model) serial).answer ≡ cond (ltb 99999999 serial) 2 0
 made_number model serial = rw (at_most serial 99999999) (by (ltb 99999999 serial))
   where
     by : (above : Bool) → number (cond (not above) (handed (answer 0) (fresh_box model serial)) (handed (answer 2) (fresh_box Tpg361 0))).answer ≡ cond above 2 0
@@ -105,7 +104,7 @@ unfolding fresh_call
 fresh_holds n serial = by (eqb n 361) (eqb n 362) (eqb n 262)
   where
     by : (a b c : Bool)
-        → number (made (cond a (One Tpg361) (cond b (One Tpg362) (cond c (One Tpg262) NoModel))) serial).answer
+        → number (made (cond a (Some Tpg361) (cond b (Some Tpg362) (cond c (Some Tpg262) None))) serial).answer
         ≡ first_given (refuses 2 (not (a || b || c) || ltb 99999999 serial) ∷ [])
     by true b c = made_number Tpg361 serial
     by false true c = made_number Tpg362 serial
@@ -117,11 +116,11 @@ pub fresh_refused : (n serial : ℕ) → number (fresh_call n serial).answer ≢
 unfolding fresh_call
 fresh_refused n serial = by (model_of n)
   where
-    by : (m : Numbered) → number (made m serial).answer ≢ 0 → made m serial ≡ handed (answer 2) (fresh_box Tpg361 0)
-    by (One model) =
+    by : (m : Option Model) → number (made m serial).answer ≢ 0 → made m serial ≡ handed (answer 2) (fresh_box Tpg361 0)
+    by (Some model) =
         cond_cases (λ (o : Outcome). number o.answer ≢ 0 → o ≡ handed (answer 2) (fresh_box Tpg361 0)) (serial_within serial) _ _
         (λ _ given. absurd (given refl)) (λ _ _. refl)
-    by NoModel = λ _. refl
+    by None = λ _. refl
 
 -- ---- what a refused call leaves alone, and what an accepted one writes
 
@@ -153,9 +152,9 @@ call_beyond s c out = rw (call_writes s c) (drop-append_seam (call_bytes s c) (d
 
 -- a line that is answered NAK changes nothing
 nak_keeps : (s : Instrument) (v : Verdict) → line_text v ≡ nak_line → applied s v ≡ s
-nak_keeps s (Asks m) e = refl
-nak_keeps s (Writes m r) e = never (cc)
-nak_keeps s (Refused x) e = refl
+nak_keeps s (Ok (Asks m)) e = refl
+nak_keeps s (Ok (Writes m r)) e = never (cc)
+nak_keeps s (Err x) e = refl
 
 -- every byte but the CR of an accepted line leaves settings, saved set, readings and switches as they were
 pub byte_keeps : (s : State) (b : ℕ) → (b ≡ cr → sent s b ≡ nak_line) → (next s b).instrument ≡ s.instrument

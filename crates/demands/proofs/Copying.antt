@@ -1,5 +1,6 @@
 -- Demand 3: a sheet of settings is read from one box and sent to another of the model, over bytes. Proved over a list of settings, and so
 -- over the sheet of any model.
+use Rattle.std.specs.Prelude.{Option, Ok, Err}
 use Prim.Native.Nat.{ℕ, suc, ◌+◌}
 use mathlib.Core.Path.{◌≡◌, refl, sym, ap, ap₂, subst, ◌∙◌}
 use mathlib.Core.List.{List, [], ◌∷◌, ◌++◌, map, flat_map, append_assoc, append-nil}
@@ -33,12 +34,9 @@ use Rattle.lines.specs.Judging.{judged, effect}
 use Rattle.lines.specs.Replies.{setting_text}
 use Rattle.lines.specs.Sheets.{sheet_line, settings_after}
 use Rattle.lines.specs.declared.word.Word.{Word}
-use Rattle.lines.specs.declared.verdict.Verdict.{Verdict}
-use Rattle.lines.specs.declared.verdict.Verdict.TheVariants.{Asks, Writes, Refused}
 use Rattle.lines.proofs.Accepted.{Spelt, all_spelt, sheet_accepted}
 use Rattle.lines.proofs.Copy.{cut_named, cut_others, whole_copy, equal_sheets}
 use Rattle.ports.specs.Limits.{port_within}
-use Rattle.ports.specs.declared.Selection.{Selection}
 use Rattle.instrument.specs.Events.{written, applied}
 use Rattle.instrument.specs.Limits.{instrument_within}
 use Rattle.instrument.specs.Replies.{reply_text}
@@ -54,18 +52,21 @@ use Rattle.demands.specs.Sheets.{box_model, box_settings, Boxes, questions, shee
 use Rattle.demands.proofs.Ending.{Line}
 use Rattle.demands.proofs.Typing.{line_judged, line_enquired, line_left, anew_line, anew_instrument, anew_said, anew_after}
 use Rattle.demands.proofs.Spelling.{Character, Typeable, typeable_inner, typeable_line, Short, names_short, name_typeable, setting_characters, line_typeable, name_judged}
+use Rattle.lines.specs.declared.verdict.Order.TheVariants.{Asks, Writes}
+use Rattle.lines.specs.Verdicts.{Verdict}
+use Rattle.settings.specs.declared.mnemonic.Replying.{Replying}
 
 -- ---- what a sheet needs of its mnemonics
 
 -- its name can be typed, and asks for it
 record Asked (model : Model) (x : Setting) : Type 0 where
   short : Short (name (setting x))
-  asks : judged model (name (setting x)) ≡ Asks (OfSetting x)
+  asks : judged model (name (setting x)) ≡ Ok (Asks (OfSetting x))
 
 -- ---- the inquiries
 
 module _ (e : End) (instrument : Instrument) where
-  inquired : (xs : List Setting) (s : State) {selection : Selection} {error : Word} → s.instrument ≡ instrument → Line s.port [] selection error → Each (Asked instrument.model) xs
+  inquired : (xs : List Setting) (s : State) {selection : Option Replying} {error : Word} → s.instrument ≡ instrument → Line s.port [] selection error → Each (Asked instrument.model) xs
       → (said s (questions e xs) ≡ sheet_replies instrument.model instrument.settings xs)
       × ((after s (questions e xs)).instrument ≡ instrument)
   unfolding flat_map after said reply_text as_often
@@ -73,14 +74,14 @@ module _ (e : End) (instrument : Instrument) where
   inquired (x ∷ xs) s {error = error} same empty h =
       let bytes = ended e (name (setting x)) ++ enquiries 1 in
       let rest = questions e xs in
-      let verdict : judged s.instrument.model (name (setting x)) ≡ Asks (OfSetting x) = ap (λ (t : Instrument). judged t.model (name (setting x))) same ∙ h.0.asks in
+      let verdict : judged s.instrument.model (name (setting x)) ≡ Ok (Asks (OfSetting x)) = ap (λ (t : Instrument). judged t.model (name (setting x))) same ∙ h.0.asks in
       let t = name_typeable (setting x) h.0.short in
       let asks = ap (judged s.instrument.model) (typeable_line (name (setting x)) t) ∙ verdict in
       let inner = typeable_inner (name (setting x)) t in
-      let one = line_left s empty (name (setting x)) inner (Asks (OfSetting x)) asks e 1 in
+      let one = line_left s empty (name (setting x)) inner (Ok (Asks (OfSetting x))) asks e 1 in
       let all = inquired xs (after s bytes) (one.0 ∙ same) one.1 h.1 in
       let text : said s bytes ≡ ack_line ++ reply_text instrument error (OfSetting x) =
-      line_enquired s empty (name (setting x)) inner (Asks (OfSetting x)) asks e 1 ∙ ap (λ (t : List ℕ). ack_line ++ t) (append-nil (reply_text s.instrument error (OfSetting x)))
+      line_enquired s empty (name (setting x)) inner (Ok (Asks (OfSetting x))) asks e 1 ∙ ap (λ (t : List ℕ). ack_line ++ t) (append-nil (reply_text s.instrument error (OfSetting x)))
       ∙ ap (λ (t : Instrument). ack_line ++ reply_text t error (OfSetting x)) same in (
         said_append bytes rest s ∙ ap₂ (λ (t u : List ℕ). t ++ u) text all.0,
         ap (λ (t : State). t.instrument) (after_append bytes rest s) ∙ all.1,
@@ -118,14 +119,14 @@ lines_copied model a (x ∷ xs) =
 record Sent (model : Model) (a : Settings) (x : Setting) : Type 0 where
   typeable : Typeable (sheet_line model a x)
   row : Row
-  writes : judged model (sheet_line model a x) ≡ Writes (setting x) row
+  writes : judged model (sheet_line model a x) ≡ Ok (Writes (setting x) row)
 
 -- a line does to the settings what the lines' own law says
 heard_settings : (s : Instrument) (v : Verdict) → (applied s v).settings ≡ effect s.model s.settings v
 unfolding written
-heard_settings s (Asks m) = refl
-heard_settings s (Writes m r) = refl
-heard_settings s (Refused x) = refl
+heard_settings s (Ok (Asks m)) = refl
+heard_settings s (Ok (Writes m r)) = refl
+heard_settings s (Err x) = refl
 
 module _ (f : End) (model : Model) (a : Settings) where
   -- the bytes of a's lines for some settings
@@ -139,14 +140,14 @@ module _ (f : End) (model : Model) (a : Settings) where
     saved : (after s (orders xs)).instrument.saved ≡ s.instrument.saved
     readings : (after s (orders xs)).instrument.readings ≡ s.instrument.readings
 
-  commanded : (xs : List Setting) (s : State) {selection : Selection} {error : Word} → box_model s ≡ model → Line s.port [] selection error → Each (Sent model a) xs → Made xs s
+  commanded : (xs : List Setting) (s : State) {selection : Option Replying} {error : Word} → box_model s ≡ model → Line s.port [] selection error → Each (Sent model a) xs → Made xs s
   unfolding flat_map after said written
   commanded [] s same empty h = record { accepted = refl; settings = refl; saved = refl; readings = refl }
   commanded (x ∷ xs) s same empty h =
       let line = sheet_line model a x in
       let bytes = ended f line in
       let rest = orders xs in
-      let v = Writes (setting x) h.0.row in
+      let v = Ok (Writes (setting x) h.0.row) in
       let verdict : judged (box_model s) line ≡ v = ap (λ (m : Model). judged m line) same ∙ h.0.writes in
       let t = h.0.typeable in
       let one = line_judged s empty line (typeable_inner line t) v (ap (judged (box_model s)) (typeable_line line t) ∙ verdict) f in
@@ -163,7 +164,7 @@ module _ (f : End) (model : Model) (a : Settings) where
 
 -- ---- the sheet of a model
 
-name_asks : (model : Model) (x : Setting) → Spelt model (setting x) → judged model (name (setting x)) ≡ Asks (OfSetting x)
+name_asks : (model : Model) (x : Setting) → Spelt model (setting x) → judged model (name (setting x)) ≡ Ok (Asks (OfSetting x))
 name_asks model x sp = name_judged model (setting x) sp ∙ rw (first_there model)
 
 sheet_asked_lem : (model : Model) → Each (Asked model) (sheet model)

@@ -1,4 +1,5 @@
 -- The empty programs that 01 excludes by name, and the box before W-202: none of them meets the demand that it names.
+use Rattle.std.specs.Prelude.{Ok, Err}
 use Prim.Native.Nat.{ℕ}
 use Prim.Native.String.{String}
 use mathlib.Core.Path.{◌≡◌, refl, sym, ap, subst, ◌∙◌}
@@ -41,8 +42,6 @@ use Rattle.lines.specs.Fields.{limited}
 use Rattle.lines.specs.Judging.{fields_read, formed, valued, with_fields, judged}
 use Rattle.lines.specs.Replies.{texts, setting_text}
 use Rattle.lines.specs.declared.word.Word.{Word}
-use Rattle.lines.specs.declared.verdict.Verdict.{Verdict}
-use Rattle.lines.specs.declared.verdict.Verdict.TheVariants.{Asks, Writes, Refused}
 use Rattle.lines.proofs.Accepted.{same_self}
 use Rattle.ports.specs.Line.{grown}
 use Rattle.ports.specs.Hearing.{kind_of, concluded, asked, by_kind, heard}
@@ -59,6 +58,8 @@ use Rattle.demands.specs.Sheets.{box_model, box_settings, Boxes, first_line, cop
 use Rattle.demands.specs.Demands.{Meets, NaksAll, once, told, BlindToLines, BlindToStates, Forgets, KeepsDigits, SilentBut}
 use Rattle.demands.proofs.Spelling.{setting_characters}
 use Rattle.demands.proofs.Copying.{first_line_lem, no_cr}
+use Rattle.lines.specs.declared.verdict.Order.TheVariants.{Asks, Writes}
+use Rattle.lines.specs.Verdicts.{Verdict}
 
 abbrev fresh : Model → State
 fresh model = fresh_box model 0
@@ -229,9 +230,9 @@ module _ (says : Says) (becomes : Becomes) (meets : Meets says becomes) where
 
 -- for a line something is sent, ACK or NAK
 some_answer : (n : ℕ) (s : Instrument) (error : Word) (v : Verdict) (front rest : List ℕ) → front ++ (answered n s error v ++ rest) ≢ []
-some_answer n s error (Asks a) [] rest e = never (cc)
-some_answer n s error (Writes m r) [] rest e = never (cc)
-some_answer n s error (Refused x) [] rest e = never (cc)
+some_answer n s error (Ok (Asks a)) [] rest e = never (cc)
+some_answer n s error (Ok (Writes m r)) [] rest e = never (cc)
+some_answer n s error (Err x) [] rest e = never (cc)
 some_answer n s error v (b ∷ front) rest e = never (cc)
 
 -- whatever came before and whatever comes behind it: every row of bytes with such a line in it would have to be listed

@@ -1,4 +1,5 @@
 -- Demand 2: each reply is what 01 gives, for every line and the ENQ behind it, and for every mnemonic read and written.
+use Rattle.std.specs.Prelude.{Option, Some, None, Ok, Err}
 use Prim.Native.Nat.{ℕ, zero, suc, ◌<◌}
 use mathlib.Core.Path.{◌≡◌, refl, sym, ap, ap₂, subst, ◌∙◌}
 use mathlib.Core.List.{List, [], ◌++◌}
@@ -27,13 +28,9 @@ use Rattle.lines.specs.Judging.{judged}
 use Rattle.lines.specs.Replies.{setting_text}
 use Rattle.lines.specs.declared.word.Word.{Word}
 use Rattle.lines.specs.declared.verdict.Fault.TheVariants.{Hardware}
-use Rattle.lines.specs.declared.verdict.Verdict.{Verdict}
-use Rattle.lines.specs.declared.verdict.Verdict.TheVariants.{Asks, Writes, Refused}
 use Rattle.lines.proofs.Accepted.{Spelt, all_spelt}
 use Rattle.lines.proofs.WrittenLimits.{writes_fitting, Kept, known_kept}
 use Rattle.ports.specs.Hearing.{selected}
-use Rattle.ports.specs.declared.Selection.{Selection}
-use Rattle.ports.specs.declared.Selection.TheVariants.{Nothing, Chosen}
 use Rattle.instrument.specs.Events.{written, applied}
 use Rattle.instrument.specs.Replies.{reply_text}
 use Rattle.instrument.specs.declared.Instrument.{Instrument}
@@ -45,6 +42,8 @@ use Rattle.demands.specs.Replies.{Answers, Left, Leaves, Reads, WritesBack, Repl
 use Rattle.demands.proofs.Ending.{Line}
 use Rattle.demands.proofs.Typing.{line_enquired, line_left, anew_line, anew_instrument, anew_said, anew_after, empty_line}
 use Rattle.demands.proofs.Spelling.{typeable_inner, typeable_line, Short, names_short, name_typeable, name_judged}
+use Rattle.lines.specs.declared.verdict.Order.TheVariants.{Asks, Writes}
+use Rattle.lines.specs.Verdicts.{Verdict}
 
 -- ---- every line
 
@@ -56,9 +55,9 @@ often_same (suc n) f g same error = ap₂ (λ (t u : List ℕ). t ++ u) (same er
 
 answered_text : (n : ℕ) (s : Instrument) (error : Word) (v : Verdict)
     → line_text v ++ as_often n (enq_text (applied s v) (choice v)) (gathering error v) ≡ answered n s error v
-answered_text n s error (Asks a) = refl
-answered_text n s error (Writes m r) = refl
-answered_text n s error (Refused x) = refl
+answered_text n s error (Ok (Asks a)) = refl
+answered_text n s error (Ok (Writes m r)) = refl
+answered_text n s error (Err x) = refl
 
 -- on an empty line, and with an ETX whatever came before: a line and its ENQs are answered by the verdict on the line
 pub line_answered : Answers said
@@ -79,7 +78,7 @@ line_answered s k w = by w.start
 pub line_leaves : Leaves after
 line_leaves s k w = by w.start
   where
-    left : {t : State} {v : Verdict} {x : Selection} → (t.instrument ≡ applied s.instrument v) × Line t.port [] x (error_left w.enqs s.port.error v) → Left s w.enqs v t
+    left : {t : State} {v : Verdict} {x : Option Replying} → (t.instrument ≡ applied s.instrument v) × Line t.port [] x (error_left w.enqs s.port.error v) → Left s w.enqs v t
     left l = record { instrument = l.0; error = l.1.word; empty = rw (l.1.good, l.1.count) }
 
     by : (start : Start) → Ready start s → (bytes : List ℕ) → Each Inner bytes
@@ -98,7 +97,7 @@ line_leaves s k w = by w.start
 
 -- told where the model has its channel, refused where it has not
 read_text_lem : (n : ℕ) (s : Instrument) (error : Word) (a : Replying) (there : Bool)
-    → answered n s error (cond there (Asks a) (Refused Hardware)) ≡ cond there (ack_line ++ as_often n (enq_text s (Chosen a)) error) (nak_line ++ as_often n (enq_text s Nothing) (gathered error Hardware))
+    → answered n s error (cond there (Ok (Asks a)) (Err Hardware)) ≡ cond there (ack_line ++ as_often n (enq_text s (Some a)) error) (nak_line ++ as_often n (enq_text s None) (gathered error Hardware))
 read_text_lem n s error a true = refl
 read_text_lem n s error a false = refl
 

@@ -1,4 +1,5 @@
 -- The lines of a sheet can be typed: names and written numbers are characters, and few enough.
+use Rattle.std.specs.Prelude.{Err}
 use Prim.Native.Nat.{ℕ, ◌≤◌}
 use Prim.Native.Char.{code}
 use mathlib.Core.Path.{◌≡◌, refl, ap, ◌∙◌}
@@ -26,7 +27,6 @@ use Rattle.lines.specs.Judging.{alone, with_fields, parted, judged}
 use Rattle.lines.specs.Replies.{texts, setting_text}
 use Rattle.lines.specs.Sheets.{sheet_line}
 use Rattle.lines.specs.declared.verdict.Fault.TheVariants.{Hardware}
-use Rattle.lines.specs.declared.verdict.Verdict.TheVariants.{Refused}
 use Rattle.lines.proofs.ReadBack.{Written, each_written}
 use Rattle.lines.proofs.Walking.{judged_parts}
 use Rattle.lines.proofs.Accepted.{Spelt, fields_one}
@@ -129,6 +129,6 @@ line_typeable model s x h =
 -- ---- a name alone
 
 -- "With no comma the line asks for the setting"; "PR2 or CF2 on a 361, 0100"
-pub name_judged : (model : Model) (m : Mnemonic) → Spelt model m → judged model (name m) ≡ cond (is_there model m) (alone model m) (Refused Hardware)
+pub name_judged : (model : Model) (m : Mnemonic) → Spelt model m → judged model (name m) ≡ cond (is_there model m) (alone model m) (Err Hardware)
 unfolding with_fields
 name_judged model m sp = judged_parts model (name m) ∙ ap (parted model) (fields_one (name m) sp.plain) ∙ rw sp.back

@@ -1,4 +1,5 @@
 -- A line on the wire: its bytes one by one, good or bad, with its end and the ENQs behind it, and an ETX before it.
+use Rattle.std.specs.Prelude.{Option, None}
 use Prim.Native.Nat.{ℕ, zero, suc, ◌≤◌, ◌<◌}
 use mathlib.Core.Path.{◌≡◌, refl, sym, ap, ap₂, subst, ◌∙◌}
 use mathlib.Core.List.{List, [], ◌∷◌, ◌++◌, append_assoc, append-nil}
@@ -17,13 +18,10 @@ use Rattle.text.specs.Control.{is_character, etx, enq, lf, cr}
 use Rattle.lines.specs.Words.{no_error}
 use Rattle.lines.specs.Judging.{judged}
 use Rattle.lines.specs.declared.word.Word.{Word}
-use Rattle.lines.specs.declared.verdict.Verdict.{Verdict}
 use Rattle.ports.specs.Line.{spoilt, grown, is_empty}
 use Rattle.ports.specs.Hearing.{with_mark, is_dropped}
 use Rattle.ports.specs.Walk.{settled}
 use Rattle.ports.specs.declared.Port.{Port}
-use Rattle.ports.specs.declared.Selection.{Selection}
-use Rattle.ports.specs.declared.Selection.TheVariants.{Nothing}
 use Rattle.ports.specs.declared.Heard.{Heard}
 use Rattle.ports.specs.declared.Event.{Event}
 use Rattle.ports.specs.declared.Event.TheVariants.{Silent}
@@ -37,11 +35,13 @@ use Rattle.tpg.specs.declared.State.{State}
 use Rattle.tpg.proofs.HostRun.{after_append, said_append}
 use Rattle.demands.specs.Wire.{Inner, undropped, is_good, line_in, End, by_cr, by_cr_lf, ended, anew, enquiries, as_often, choice, enq_text, gathering, error_left}
 use Rattle.demands.proofs.Ending.{Line, marked_line, settled_line, Judged, Held, held_line, word_left, reply_without_word, word_stays_gone, cr_judges, enq_replies, lf_nothing, etx_empties}
+use Rattle.lines.specs.Verdicts.{Verdict}
+use Rattle.settings.specs.declared.mnemonic.Replying.{Replying}
 
 -- ---- the bytes of a line
 
 -- one character more
-grown_line : {p : Port} {l : List ℕ} {selection : Selection} {error : Word} → Line p l selection error → (b : ℕ) → length l < 80 → Line (grown p b) (l ++ b ∷ []) selection error
+grown_line : {p : Port} {l : List ℕ} {selection : Option Replying} {error : Word} → Line p l selection error → (b : ℕ) → length l < 80 → Line (grown p b) (l ++ b ∷ []) selection error
 unfolding grown
 grown_line {p} {l} h b few =
     let len : p.len < 80 = omega (arith, h.count) in
@@ -57,12 +57,12 @@ grown_line {p} {l} h b few =
     })
 
 -- what bytes leave in a box: nothing is sent, the instrument stays, and the port holds a line
-record Typed (s : State) (bytes l : List ℕ) (selection : Selection) (error : Word) : Type 0 where
+record Typed (s : State) (bytes l : List ℕ) (selection : Option Replying) (error : Word) : Type 0 where
   silent : said s bytes ≡ []
   instrument : (after s bytes).instrument ≡ s.instrument
   line : Held (after s bytes).port l selection error
 
-module _ (s : State) (b : ℕ) (bytes l : List ℕ) (selection : Selection) (error : Word) where
+module _ (s : State) (b : ℕ) (bytes l : List ℕ) (selection : Option Replying) (error : Word) where
   -- the rest of the bytes, from another port on
   abbrev Rest : Port → Type 0
   Rest p = Typed (record { instrument = s.instrument; port = p }) bytes l selection error
@@ -92,13 +92,13 @@ module _ (s : State) (b : ℕ) (bytes l : List ℕ) (selection : Selection) (err
       (λ d. (refl, kept d)) (λ d. (refl, settles d)) (λ d c. (refl, grows d c)) (λ d c. (refl, spoils d c)))
 
 -- a bad line
-record Bad (p : Port) (selection : Selection) (error : Word) : Type 0 where
+record Bad (p : Port) (selection : Option Replying) (error : Word) : Type 0 where
   bad : p.bad ≡ true
   chosen : p.selection ≡ selection
   word : p.error ≡ error
 
 -- stays bad, and holds nothing
-bad_run : (bytes : List ℕ) (s : State) {selection : Selection} {error : Word} → Each Inner bytes → Bad s.port selection error → Typed s bytes [] selection error
+bad_run : (bytes : List ℕ) (s : State) {selection : Option Replying} {error : Word} → Each Inner bytes → Bad s.port selection error → Typed s bytes [] selection error
 unfolding said after
 bad_run [] s inner h = record { silent = refl; instrument = refl; line = record { text = rw h.bad; chosen = h.chosen; word = h.word } }
 bad_run (b ∷ bytes) s {selection} {error} inner h =
@@ -134,13 +134,13 @@ unfolding is_good
 short_good front c h = rw (each_every is_character front c, le-leb (length front) 80 h)
 
 -- an 81st character
-eighty_first_spoils : {p : Port} {l : List ℕ} {selection : Selection} {error : Word} → Line p l selection error → (b : ℕ) → 80 ≤ length l → Bad (grown p b) selection error
+eighty_first_spoils : {p : Port} {l : List ℕ} {selection : Option Replying} {error : Word} → Line p l selection error → (b : ℕ) → 80 ≤ length l → Bad (grown p b) selection error
 unfolding grown
 eighty_first_spoils {p} h b few = rw (h.good, le-ltb p.len 80 (omega (arith, h.count))) (record { bad = refl; chosen = h.chosen; word = h.word })
 
 -- ---- all bytes of a line
 
-good_run : (bytes : List ℕ) (s : State) (front : List ℕ) {selection : Selection} {error : Word} → Each Inner bytes → Line s.port front selection error
+good_run : (bytes : List ℕ) (s : State) (front : List ℕ) {selection : Option Replying} {error : Word} → Each Inner bytes → Line s.port front selection error
     → Each (λ (b : ℕ). is_character b ≡ true) front → length front ≤ 80 → Typed s bytes (line_with front bytes) selection error
 unfolding said after undropped
 good_run [] s front inner h c few = record {
@@ -164,22 +164,22 @@ good_run (b ∷ bytes) s front {selection} {error} inner h c few =
 -- ---- so many ENQs
 
 -- only the first can tell the error word
-replies_without_word : (n : ℕ) (s : Instrument) (error : Word) (x : Selection) → as_often n (enq_text s x) (word_left error x) ≡ as_often n (enq_text s x) no_error
+replies_without_word : (n : ℕ) (s : Instrument) (error : Word) (x : Option Replying) → as_often n (enq_text s x) (word_left error x) ≡ as_often n (enq_text s x) no_error
 unfolding as_often
 replies_without_word zero s error x = refl
 replies_without_word (suc n) s error x = ap (λ (t : List ℕ). t ++ as_often n (enq_text s x) no_error) (reply_without_word s error x)
 
 -- the error word after them
-abbrev word_after : ℕ → Word → Selection → Word
+abbrev word_after : ℕ → Word → Option Replying → Word
 word_after zero error x = error
 word_after (suc n) error x = word_left error x
 
-word_gone : (n : ℕ) (error : Word) (x : Selection) → word_after n (word_left error x) x ≡ word_left error x
+word_gone : (n : ℕ) (error : Word) (x : Option Replying) → word_after n (word_left error x) x ≡ word_left error x
 word_gone zero error x = refl
 word_gone (suc n) error x = word_stays_gone error x
 
 -- nothing else changes
-enqs_keep : (n : ℕ) (s : State) {x : Selection} {error : Word} → Line s.port [] x error
+enqs_keep : (n : ℕ) (s : State) {x : Option Replying} {error : Word} → Line s.port [] x error
     → ((after s (enquiries n)).instrument ≡ s.instrument) × Line (after s (enquiries n)).port [] x (word_after n error x)
 unfolding after
 enqs_keep zero s h = (refl, h)
@@ -188,7 +188,7 @@ enqs_keep (suc n) s {x} {error} h =
     let k = enqs_keep n (next s enq) r.line in
     (k.0 ∙ r.instrument, subst (Line (after (next s enq) (enquiries n)).port [] x) (word_gone n error x) k.1)
 
-enqs_replied : (n : ℕ) (s : State) {x : Selection} {error : Word} → Line s.port [] x error → said s (enquiries n) ≡ as_often n (enq_text s.instrument x) error
+enqs_replied : (n : ℕ) (s : State) {x : Option Replying} {error : Word} → Line s.port [] x error → said s (enquiries n) ≡ as_often n (enq_text s.instrument x) error
 unfolding said as_often
 enqs_replied zero s h = refl
 enqs_replied (suc n) s {x} {error} h =
@@ -203,7 +203,7 @@ word_left_lem (suc n) error v = refl
 
 -- ---- a line and its end
 
-module _ (s : State) {selection : Selection} {error : Word} (empty : Line s.port [] selection error) (bytes : List ℕ) (inner : Each Inner bytes)
+module _ (s : State) {selection : Option Replying} {error : Word} (empty : Line s.port [] selection error) (bytes : List ℕ) (inner : Each Inner bytes)
     (v : Verdict) (verdict : judged s.instrument.model (line_in bytes) ≡ v) where
   -- what the box sends for the bytes and their end, and what it is then
   abbrev Ended : End → Type 0
@@ -253,7 +253,7 @@ module _ (s : State) {selection : Selection} {error : Word} (empty : Line s.port
 
 -- ---- an ETX first
 
-pub anew_line : (s : State) → Line (next s etx).port [] Nothing s.port.error
+pub anew_line : (s : State) → Line (next s etx).port [] None s.port.error
 anew_line s = (etx_empties s).2
 
 pub anew_instrument : (s : State) → (next s etx).instrument ≡ s.instrument

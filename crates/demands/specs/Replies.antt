@@ -1,18 +1,18 @@
 -- Demand 2 (docs/DEMANDS.md has its sentences), said of what a program sends for host bytes and of its state after them, so that it can be asked of any program.
-use Rattle.std.specs.Prelude.{ℕ, ◌≡◌, List, ◌++◌, true}
+use Rattle.std.specs.Prelude.{ℕ, ◌≡◌, List, ◌++◌, true, Ok}
 use Rattle.ground.specs.Members.{Each}
 use Rattle.settings.specs.Mnemonics.{known, name}
 use Rattle.settings.specs.declared.mnemonic.Mnemonic.{Mnemonic}
 use Rattle.settings.specs.declared.mnemonic.Mnemonic.TheVariants.{OfReplying, Com, Sav}
 use Rattle.settings.specs.declared.rows.Row.{Row}
 use Rattle.lines.specs.Judging.{judged}
-use Rattle.lines.specs.declared.verdict.Verdict.{Verdict}
-use Rattle.lines.specs.declared.verdict.Verdict.TheVariants.{Writes}
 use Rattle.ports.specs.Line.{is_empty}
 use Rattle.instrument.specs.Events.{applied}
 use Rattle.tpg.specs.States.{Sound}
 use Rattle.tpg.specs.declared.State.{State}
 use Rattle.demands.specs.Wire.{ack_line, Inner, line_in, Ready, Way, sending, as_often, answered, error_left, read_text, written_text}
+use Rattle.lines.specs.declared.verdict.Order.TheVariants.{Writes}
+use Rattle.lines.specs.Verdicts.{Verdict}
 
 -- what a program sends for host bytes, and its state after them
 abbrev pub Says : Type 0
@@ -49,7 +49,7 @@ Reads says s Sav = Unit {0}
 -- "and for writing one": a line that writes it is answered with what it wrote
 abbrev pub WritesBack : Says → State → Mnemonic → Type 0
 WritesBack says s m =
-    (w : Way) → Ready w.start s → (bytes : List ℕ) (r : Row) → Each Inner bytes → judged s.instrument.model (line_in bytes) ≡ Writes m r
+    (w : Way) → Ready w.start s → (bytes : List ℕ) (r : Row) → Each Inner bytes → judged s.instrument.model (line_in bytes) ≡ Ok (Writes m r)
     → says s (sending w bytes) ≡ ack_line ++ as_often w.enqs (written_text s.instrument m r) s.port.error
 
 -- every mnemonic that the model knows, read and written

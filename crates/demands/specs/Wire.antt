@@ -1,5 +1,5 @@
 -- Lines and replies as bytes on the wire (01, "Bytes from the host"; 000, "Transmission protocol" and "Reception protocol").
-use Rattle.std.specs.Prelude.{ℕ, zero, suc, ◌≡◌, List, [], ◌∷◌, ◌++◌, Bool, true, cond, ◌&&◌, ◌≢◌, leb, length, set, take, replicate}
+use Rattle.std.specs.Prelude.{ℕ, zero, suc, ◌≡◌, List, [], ◌∷◌, ◌++◌, Bool, true, cond, ◌&&◌, ◌≢◌, leb, length, set, take, replicate, Option, Some, None, Ok, Err}
 use Rattle.ground.specs.Members.{every}
 use Rattle.text.specs.Control.{etx, enq, ack, cr, nak, cr_lf, is_character}
 use Rattle.settings.specs.Rows.{listed}
@@ -10,22 +10,20 @@ use Rattle.settings.specs.declared.mnemonic.Replying.{Replying}
 use Rattle.settings.specs.declared.mnemonic.Replying.TheVariants.{OfSetting, Cf, OfQuery}
 use Rattle.settings.specs.declared.mnemonic.Mnemonic.{Mnemonic}
 use Rattle.settings.specs.declared.mnemonic.Mnemonic.TheVariants.{OfReplying, Com, Sav}
-use Rattle.settings.specs.declared.mnemonic.Query.TheVariants.{Err}
+use Rattle.settings.specs.declared.mnemonic.Query.TheVariants.{Err as ErrQuery}
 use Rattle.settings.specs.declared.rows.Row.{Row}
 use Rattle.lines.specs.Splitting.{joined}
 use Rattle.lines.specs.Words.{fault, no_error, gathered}
 use Rattle.lines.specs.Replies.{texts}
 use Rattle.lines.specs.declared.word.Word.{Word}
-use Rattle.lines.specs.declared.verdict.Verdict.{Verdict}
-use Rattle.lines.specs.declared.verdict.Verdict.TheVariants.{Asks, Writes, Refused}
 use Rattle.ports.specs.Line.{is_empty}
 use Rattle.ports.specs.Hearing.{is_dropped, selected}
-use Rattle.ports.specs.declared.Selection.{Selection}
-use Rattle.ports.specs.declared.Selection.TheVariants.{Nothing, Chosen}
 use Rattle.instrument.specs.Events.{written}
 use Rattle.instrument.specs.Replies.{reply_text}
 use Rattle.instrument.specs.declared.Instrument.{Instrument}
 use Rattle.tpg.specs.declared.State.{State}
+use Rattle.lines.specs.declared.verdict.Order.TheVariants.{Asks, Writes}
+use Rattle.lines.specs.Verdicts.{Verdict}
 
 -- "sends ACK CR LF", "sends NAK CR LF"
 abbrev pub ack_line : List ℕ
@@ -106,34 +104,34 @@ as_often zero text error = []
 as_often (suc n) text error = text error ++ as_often n text no_error
 
 -- "An accepted line .. selects its mnemonic"; "A refused one .. clears the selection."
-abbrev pub choice : Verdict → Selection
-choice (Asks a) = Chosen a
-choice (Writes m r) = selected m
-choice (Refused x) = Nothing
+abbrev pub choice : Verdict → Option Replying
+choice (Ok (Asks a)) = Some a
+choice (Ok (Writes m r)) = selected m
+choice (Err x) = None
 
 -- ENQ "sends the selected mnemonic's reply"; "With no selection .. sends the error word", as ERR does
-abbrev pub enq_text : Instrument → Selection → Word → List ℕ
-enq_text s Nothing error = reply_text s error (OfQuery Err)
-enq_text s (Chosen a) error = reply_text s error a
+abbrev pub enq_text : Instrument → Option Replying → Word → List ℕ
+enq_text s None error = reply_text s error (OfQuery ErrQuery)
+enq_text s (Some a) error = reply_text s error a
 
 -- what comes back for a line and so many ENQs behind it
 abbrev pub answered : ℕ → Instrument → Word → Verdict → List ℕ
-answered n s error (Asks a) = ack_line ++ as_often n (enq_text s (Chosen a)) error
-answered n s error (Writes m r) = ack_line ++ as_often n (enq_text (written s m r) (selected m)) error
-answered n s error (Refused x) = nak_line ++ as_often n (enq_text s Nothing) (gathered error x)
+answered n s error (Ok (Asks a)) = ack_line ++ as_often n (enq_text s (Some a)) error
+answered n s error (Ok (Writes m r)) = ack_line ++ as_often n (enq_text (written s m r) (selected m)) error
+answered n s error (Err x) = nak_line ++ as_often n (enq_text s None) (gathered error x)
 
 -- ---- what it leaves behind
 
 -- "Digits gather until the word is sent"
 abbrev pub gathering : Word → Verdict → Word
-gathering error (Asks a) = error
-gathering error (Writes m r) = error
-gathering error (Refused x) = gathered error x
+gathering error (Ok (Asks a)) = error
+gathering error (Ok (Writes m r)) = error
+gathering error (Err x) = gathered error x
 
 -- "in either way of an ENQ or through ERR": whether an ENQ behind the line sends the word
-abbrev pub tells_error : Selection → Bool
-tells_error Nothing = true
-tells_error (Chosen a) = is_err a
+abbrev pub tells_error : Option Replying → Bool
+tells_error None = true
+tells_error (Some a) = is_err a
 
 -- "then it is 0000"
 abbrev pub error_left : ℕ → Word → Verdict → Word
@@ -145,7 +143,7 @@ error_left (suc n) error v = cond (tells_error (choice v)) no_error (gathering e
 -- for a mnemonic alone that has a reply: "PR2 or CF2 on a 361, 0100", and any other is told
 abbrev pub read_text : ℕ → Instrument → Word → Replying → List ℕ
 read_text n s error a =
-    cond (is_there s.model (OfReplying a)) (ack_line ++ as_often n (enq_text s (Chosen a)) error) (nak_line ++ as_often n (enq_text s Nothing) (gathered error (fault 100)))
+    cond (is_there s.model (OfReplying a)) (ack_line ++ as_often n (enq_text s (Some a)) error) (nak_line ++ as_often n (enq_text s None) (gathered error (fault 100)))
 
 -- what the ENQ tells after a line that wrote: the line's own values; "CFx takes one factor and answers one per channel"; a mnemonic without
 -- fields has nothing to write
@@ -153,5 +151,5 @@ abbrev pub written_text : Instrument → Mnemonic → Row → Word → List ℕ
 written_text s (OfReplying (OfSetting x)) r error = joined (texts (kinds s.model (setting x)) (take (field_count s.model x) (listed r))) ++ cr_lf
 written_text s (OfReplying (Cf k)) r error = joined (texts (kinds s.model (setting Cal)) (set (cells s.model s.settings Cal) k r.first)) ++ cr_lf
 written_text s (OfReplying (OfQuery q)) r error = reply_text s error (OfQuery q)
-written_text s Com r error = enq_text s Nothing error
-written_text s Sav r error = enq_text s Nothing error
+written_text s Com r error = enq_text s None error
+written_text s Sav r error = enq_text s None error

@@ -3,7 +3,7 @@
 
 use frames::FrameOutcome;
 use lines::judging::judge;
-use lines::verdict::Verdict;
+use lines::verdict::Order;
 use settings::Settings;
 use settings::model::Model;
 use std::io;
@@ -14,9 +14,7 @@ use tpg::answers::Outcome;
 
 // A fresh 362 that is asked for its filters: ACK CR LF, then 2,2 CR LF, eight bytes from the front of out on.
 fn filters(out: &mut [u8]) -> Outcome {
-    let made = State::fresh(362, 44990000);
-    let state = made.state;
-    state.host(b"FIL\r\x05", out)
+    State::fresh(362, 44990000).state.host(b"FIL\r\x05", out)
 }
 
 // Two lines, each answered ACK CR LF: the unit is Torr from here on, and a line of the stream is due at every tick.
@@ -26,9 +24,7 @@ fn streaming(state: State, out: &mut [u8]) -> Outcome {
 
 // A reading of channel 1, +1.0000E+03 hPa from a linear gauge, and then one tick.
 fn read_and_tick(state: State, out: &mut [u8]) -> Outcome {
-    let read = state.reading(1, 5, 0, 10000, 3);
-    let next = read.state;
-    next.tick(out)
+    state.reading(1, 5, 0, 10000, 3).state.tick(out)
 }
 
 // An input line of the bench, without its end: the output line stands at the front of out, which has room for the longest.
@@ -38,18 +34,16 @@ fn answered(state: State, out: &mut [u8]) -> FrameOutcome {
 
 // The floors below can be called by themselves: the settings after a line without its CR.
 fn after(model: Model, s: Settings, line: &[u8]) -> Settings {
-    let v = judge(model, line);
-    match v {
-        Verdict::Asks(_) => s,
-        Verdict::Writes(m, cells) => s.store(model, m, cells),
-        Verdict::Refused(_) => s,
+    match judge(model, line) {
+        Ok(Order::Writes(m, cells)) => s.store(model, m, cells),
+        Ok(Order::Asks(_)) | Err(_) => s,
     }
 }
 
 // The bytes that a call wrote: never more than out has, and the test spares a proof of that here.
 fn send(output: &mut Stdout, out: &[u8], written: usize) -> io::Result<()> {
     if written <= out.len() {
-        output.write_all(&out[0..written])?;
+        output.write_all(&out[..written])?;
     }
     Ok(())
 }

@@ -1,39 +1,35 @@
 -- A frame's call, with room for all that it sends.
-use Prim.Native.Nat.{ℕ, suc, ◌*◌, ◌-◌, ◌≤◌}
+use Prim.Native.Nat.{ℕ, ◌*◌, ◌-◌, ◌≤◌}
 use mathlib.Core.Path.{◌≡◌, refl, sym, ap, ◌∙◌}
 use mathlib.Core.List.{List, [], ◌∷◌}
 use mathlib.Core.Bool.{true, false}
 use native.Mathlib.Omega.{arith}
-use borrow.Author.Tests.{le-leb, eqb-true, eq-eqb, ne_eqb}
+use borrow.Author.Tests.{le-leb}
 use lib.ListN.{length, get_or, take, drop, length-drop}
 use lib.Seq.{take_all, take-length}
 use lib.Dec.{eqb}
 use lib.IntN.{ℤ}
 use mathlib.Core.Logic.{◌⊎◌, inl, inr}
 use mathlib.Mathlib.Data.Bool.Basic.{dichotomy}
-use Rattle.ground.proofs.Cases.{never, cond_cases}
+use Rattle.std.specs.Prelude.{Option, Some, None}
+use Rattle.ground.proofs.Cases.{cond_cases}
 use Rattle.gauges.specs.declared.reading.Reading.{Reading}
-use Rattle.instrument.specs.Limits.{gauge_within}
+use Rattle.settings.specs.Models.{model_of}
+use Rattle.settings.specs.declared.model.Model.{Model}
+use Rattle.instrument.specs.Limits.{gauge_within, serial_within}
 use Rattle.tpg.specs.Answers.{number, done, least_output}
 use Rattle.tpg.specs.States.{state_within}
 use Rattle.tpg.specs.Steps.{after, said}
-use Rattle.tpg.specs.Calls.{admits, turned_away, roomed, roomed_bytes, host_text, hosted, fresh_call, host_call, host_bytes, is_channel, reading_call, cycle_call, after_ticks, ticks_text, ticks_call, ticks_bytes}
+use Rattle.tpg.specs.Calls.{admits, turned_away, roomed, roomed_bytes, host_text, hosted, made, fresh_call, host_call, host_bytes, is_channel, reading_call, cycle_call, after_ticks, ticks_text, ticks_call, ticks_bytes}
 use Rattle.tpg.specs.declared.State.{State}
+use Rattle.tpg.specs.declared.answers.Answer.{Answer}
+use Rattle.tpg.specs.declared.answers.Answer.TheVariants.{Accepted, BrokenState, NoModel, ShortOutput, NoChannel, BadReading}
 use Rattle.tpg.specs.declared.answers.Outcome.{Outcome}
 use Rattle.tpg.proofs.Counts.{all_taken}
 use Rattle.frames.specs.Encoding.{exponent_of, mantissa_of}
 use Rattle.frames.specs.Frames.{silent, sending_frame, host_frame, reading_of, reading_frame, ticks_frame, model_number, fresh_frame}
 use Rattle.frames.specs.Walk.{frame_outcome}
 use Rattle.frames.specs.declared.FrameOutcome.{FrameOutcome}
-
--- a frame has a first byte where it is not 0
-pub some_first : (f : List ℕ) (n : ℕ) → eqb (get_or f 0 0) (suc n) ≡ true → 1 ≤ length f
-some_first [] n e = never (omega (arith, eqb-true 0 (suc n) e))
-some_first (b ∷ bs) n e = omega arith
-
-pub no_first : (f : List ℕ) → length f ≤ 0 → 0 ≡ get_or f 0 0
-no_first [] h = refl
-no_first (b ∷ bs) h = never (omega arith)
 
 -- what stands behind the first byte
 pub behind : (f : List ℕ) → take (length f - 1) (drop 1 f) ≡ drop 1 f
@@ -75,25 +71,34 @@ ticks_told s n room all = told_roomed s (after_ticks s n) (least_output * n) roo
 
 -- ---- a fresh box, or the one there was
 
-module _ (s : State) (b : ℕ) (o : Outcome) (e : o ≡ fresh_call (model_number b) 0) (n : ℕ) (m : n ≡ number o.answer) where
-  same : n ≡ number (fresh_call (model_number b) 0).answer
-  same = m ∙ ap (λ (x : Outcome). number x.answer) e
+abbrev Unwritten : Outcome → Type 0
+Unwritten o = o.written ≡ 0
 
-  pub fresh_taken : n ≡ 0 → record { number = n; state = o.state; written = 0 } ≡ frame_outcome (fresh_frame s b)
-  unfolding fresh_frame
-  fresh_taken z = rw (same, e, eq-eqb (number (fresh_call (model_number b) 0).answer) 0 (sym same ∙ z))
+made_unwritten : (m : Option Model) (serial : ℕ) → Unwritten (made m serial)
+made_unwritten (Some m) serial = cond_cases Unwritten (serial_within serial) _ _ (λ e. refl) (λ e. refl)
+made_unwritten None serial = refl
 
-  pub fresh_kept : (n ≡ 0 → ⊥) → record { number = n; state = s; written = 0 } ≡ frame_outcome (fresh_frame s b)
+refused : (a : Answer) → (a ≡ Accepted → ⊥) → eqb (number a) 0 ≡ false
+refused Accepted n = absurd (n refl)
+refused BrokenState n = refl
+refused NoModel n = refl
+refused ShortOutput n = refl
+refused NoChannel n = refl
+refused BadReading n = refl
+
+module _ (s : State) (b : ℕ) (o : Outcome) (e : o ≡ fresh_call (model_number b) 0) where
+  pub fresh_taken : o.answer ≡ Accepted → told_call o ≡ frame_outcome (fresh_frame s b)
+  unfolding fresh_frame fresh_call
+  fresh_taken a = rw (e, sym (ap (λ (x : Outcome). x.answer) e) ∙ a, made_unwritten (model_of (model_number b)) 0)
+
+  pub fresh_kept : (o.answer ≡ Accepted → ⊥) → record { number = number o.answer; state = s; written = 0 } ≡ frame_outcome (fresh_frame s b)
   unfolding fresh_frame
-  fresh_kept z = rw (same, ne_eqb (number (fresh_call (model_number b) 0).answer) 0 (λ (q : number (fresh_call (model_number b) 0).answer ≡ 0). z (same ∙ q)))
+  fresh_kept n = rw (← e, refused o.answer n)
 
 -- ---- the calls that send nothing
 
 quiet_told : (o : Outcome) → o.written ≡ 0 → told_call o ≡ frame_outcome (silent o)
 quiet_told o e = rw e
-
-abbrev Unwritten : Outcome → Type 0
-Unwritten o = o.written ≡ 0
 
 pub cycle_told : (s : State) → told_call (cycle_call s) ≡ frame_outcome (silent (cycle_call s))
 unfolding cycle_call

@@ -1,8 +1,8 @@
--- Which call a frame asks for: the first byte, and the number of bytes that goes with it.
+-- What holds of every form of frames, and what was sent for one handed on.
 use Prim.Native.Nat.{ℕ, ◌≤◌}
 use mathlib.Core.Path.{◌≡◌, refl}
 use mathlib.Core.List.{List, []}
-use mathlib.Core.Bool.{Bool, true, false, ◌&&◌, and-eq-true_iff}
+use mathlib.Core.Bool.{◌&&◌, and-eq-true_iff}
 use borrow.Author.Tests.{leb-true}
 use lib.ListN.{length, get_or, drop}
 use lib.Dec.{leb, eqb}
@@ -13,45 +13,6 @@ use Rattle.tpg.specs.declared.State.{State}
 use Rattle.frames.specs.Frames.{Exchange, longest_frame, no_frame, silent, host_frame, reading_frame, ticks_frame, fresh_frame, framed}
 use Rattle.frames.specs.Walk.{frame_outcome}
 use Rattle.frames.specs.declared.FrameOutcome.{FrameOutcome}
-
-module _ (s : State) (f : List ℕ) (b : ℕ) (e : b ≡ get_or f 0 0) where
-  -- one of these two at each test of the code
-  abbrev test : ℕ → Bool → Bool → Type 0
-  test n long t = (eqb b n && long) ≡ t
-
-  abbrev few : Bool
-  few = leb (length f) longest_frame
-
-  abbrev has : ℕ → Bool
-  has n = eqb (length f) n
-
-  pub to_host : test 1 few true → framed s f ≡ host_frame s (drop 1 f)
-  unfolding framed
-  to_host h = rw (← e, h)
-
-  module _ (h : test 1 few false) where
-    pub to_reading : test 2 (has 9) true → framed s f ≡ reading_frame s f
-    unfolding framed
-    to_reading r = rw (← e, h, r)
-
-    module _ (r : test 2 (has 9) false) where
-      pub to_ticks : test 3 (has 2) true → framed s f ≡ ticks_frame s (get_or f 1 0)
-      unfolding framed
-      to_ticks t = rw (← e, h, r, t)
-
-      module _ (t : test 3 (has 2) false) where
-        pub to_fresh : test 4 (has 2) true → framed s f ≡ fresh_frame s (get_or f 1 0)
-        unfolding framed
-        to_fresh m = rw (← e, h, r, t, m)
-
-        module _ (m : test 4 (has 2) false) where
-          pub to_cycle : test 5 (has 1) true → framed s f ≡ silent (cycle_call s)
-          unfolding framed
-          to_cycle c = rw (← e, h, r, t, m, c)
-
-          pub to_none : test 5 (has 1) false → framed s f ≡ no_frame s
-          unfolding framed
-          to_none c = rw (← e, h, r, t, m, c)
 
 -- what holds of each form's reply holds of a frame's
 module _ (P : Exchange → Type 0) (s : State) (f : List ℕ) where

@@ -6,17 +6,13 @@ ghost use Rattle.frames.specs.Encoding.{exponent_of, mantissa_of};
 pub(crate) fn exponent_of(byte: u8) -> i32
     ensures { result ≡ exponent_of byte }
 {
-    if byte < 128 {
-        byte as i32
-    } else {
-        (byte as i32) - 256
-    }
+    byte.cast_signed() as i32
 }
 
 // A mantissa from its sign and its three bytes, high first.
 pub(crate) fn mantissa_of(minus: bool, high: u8, middle: u8, low: u8) -> i32
     ensures { result ≡ mantissa_of minus high middle low }
 {
-    let m = (high as u32) * 65536 + (middle as u32) * 256 + (low as u32);
-    if minus { -(m as i32) } else { m as i32 }
+    let m = u32::from_be_bytes([0, high, middle, low]) as i32;
+    if minus { -m } else { m }
 }

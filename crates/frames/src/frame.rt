@@ -1,36 +1,22 @@
 // The bytes of a frame.
-ghost use Rattle.std.specs.Prelude.{◌≡◌, ◌≤◌, length, take};
+ghost use Rattle.std.specs.Prelude.{◌≡◌, ◌≤◌, length, take, unwrap_or};
 ghost use Rattle.frames.specs.Frames.{longest_frame};
 ghost use Rattle.frames.specs.Walk.{read_bytes};
 
 use crate::LONGEST_FRAME;
-use text::hex::{NO_DIGIT, value_of};
+use text::hex::value_of;
 
-// two for each byte of the longest frame
-const MOST_DIGITS: usize = 2 * LONGEST_FRAME;
-
-// The bytes that a line stands for, put at the start of `bytes`; none where it is no hexadecimal, or too long.
-pub(crate) fn read(line: &[u8], bytes: &mut [u8]) -> usize
+// The bytes that a line stands for, put at the start of `bytes`: how many, or none: it is no hexadecimal, or too long.
+pub(crate) fn read(line: &[u8], bytes: &mut [u8]) -> Option<usize>
     requires { length bytes.old ≡ longest_frame }
-    ensures { (result ≤ longest_frame) × (take result bytes.new ≡ read_bytes line.now) }
+    ensures { let count = unwrap_or result 0 in (count ≤ longest_frame) × (take count bytes.new ≡ read_bytes line.now) }
 {
-    if MOST_DIGITS < line.len() {
-        return 0;
+    let (pairs, odd) = line.as_chunks::<2>();
+    if !odd.is_empty() || LONGEST_FRAME < pairs.len() {
+        return None;
     }
-    if line.len() % 2 == 1 {
-        return 0;
+    for (i, &[high, low]) in pairs.iter().enumerate() {
+        bytes[i] = 16 * value_of(high)? + value_of(low)?;
     }
-    let count = line.len() / 2;
-    let mut i: usize = 0;
-    while i < count {
-        let high = value_of(line[2 * i]);
-        let low = value_of(line[2 * i + 1]);
-        if (high < NO_DIGIT) & (low < NO_DIGIT) {
-            bytes[i] = 16 * high + low;
-            i += 1;
-        } else {
-            return 0;
-        }
-    }
-    count
+    Some(pairs.len())
 }

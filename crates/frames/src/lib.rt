@@ -22,6 +22,7 @@ pub const LONGEST_FRAME: usize = 61;
 const SHORT_OUTPUT: u8 = 3;
 
 // The answer number of a frame, the box after it, and how many bytes stand in the output.
+// A number and no enum: `answer_call` promises the number, which the output line begins with.
 #[derive(Clone, Copy)]
 pub struct FrameOutcome {
     pub number: u8,
@@ -46,10 +47,10 @@ pub fn answer(state: State, line: &[u8], out: &mut [u8]) -> FrameOutcome
     if out.len() < LONGEST_LINE {
         return handed(SHORT_OUTPUT, state, 0);
     }
+    // fixed memory: no crate of the engine allocates
     let mut bytes = [0u8; LONGEST_FRAME];
-    let len = frame::read(line, &mut bytes);
+    let len = frame::read(line, &mut bytes).unwrap_or(0);
     let told = taking::take(state, &bytes[..len], out);
-    let next = told.state;
     let written = spread::spread(out, told.number, told.written);
-    handed(told.number, next, written)
+    handed(told.number, told.state, written)
 }

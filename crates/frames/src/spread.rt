@@ -14,9 +14,7 @@ pub(crate) fn spread(out: &mut [u8], number: u8, count: usize) -> usize
     ensures { (result ≡ 2 + 2 * count + 1) × (out.new ≡ over (hex (number ∷ take count out.old) ++ lf ∷ []) out.old) }
 {
     let digits = DIGITS;
-    let mut i = count;
-    while 0 < i {
-        i -= 1;
+    for i in (0..count).rev() {
         let byte = out[i] as usize;
         out[2 + 2 * i] = digits[byte / 16];
         out[3 + 2 * i] = digits[byte % 16];

@@ -1,14 +1,14 @@
 // A frame taken: the call that it asks for. What is sent stands at the start of the output, as bytes.
-ghost use Rattle.std.specs.Prelude.{◌≡◌, ◌≤◌, length, get_or, drop};
+ghost use Rattle.std.specs.Prelude.{◌≡◌, ◌≤◌, length};
 ghost use Rattle.tpg.specs.Answers.{number};
 ghost use Rattle.tpg.specs.Steps.{over};
-ghost use Rattle.frames.specs.Frames.{longest_frame, most_sent, no_frame, host_frame, reading_frame, ticks_frame, model_number, fresh_frame, framed};
+ghost use Rattle.frames.specs.Frames.{most_sent, no_frame, model_number, fresh_frame, framed};
 ghost use Rattle.frames.specs.Walk.{frame_outcome};
 
 use crate::encoding::{exponent_of, mantissa_of};
 use crate::{FrameOutcome, LONGEST_FRAME, handed};
 use tpg::State;
-use tpg::answers::Outcome;
+use tpg::answers::{Answer, Outcome};
 
 // The answer to a frame of other form.
 const NO_FRAME: u8 = 255;
@@ -17,13 +17,7 @@ const NO_FRAME: u8 = 255;
 fn frame_outcome(o: Outcome) -> FrameOutcome
     ensures { result ≡ record { number = number o.answer; state = o.state; written = o.written } }
 {
-    let answer = o.answer;
-    let state = o.state;
-    FrameOutcome {
-        number: answer.number(),
-        state,
-        written: o.written,
-    }
+    handed(o.answer.number(), o.state, o.written)
 }
 
 // The answer to a frame of other form: nothing changes.
@@ -33,69 +27,27 @@ fn no_frame(state: State) -> FrameOutcome
     handed(NO_FRAME, state, 0)
 }
 
-fn take_host(state: State, frame: &[u8], out: &mut [u8]) -> FrameOutcome
-    requires { (1 ≤ length frame.now) × (length frame.now ≤ longest_frame) × (most_sent ≤ length out.old) }
-    ensures { (result ≡ frame_outcome (host_frame state (drop 1 frame.now))) × (out.new ≡ over (host_frame state (drop 1 frame.now)).bytes out.old) }
-{
-    frame_outcome(state.host(&frame[1..], out))
-}
-
-fn take_reading(state: State, frame: &[u8]) -> FrameOutcome
-    requires { length frame.now ≡ 9 }
-    ensures { result ≡ frame_outcome (reading_frame state frame.now) }
-{
-    if frame[4] <= 1 {
-        let mantissa = mantissa_of(frame[4] == 1, frame[5], frame[6], frame[7]);
-        let exponent = exponent_of(frame[8]);
-        return frame_outcome(state.reading(frame[1], frame[2], frame[3], mantissa, exponent));
-    }
-    no_frame(state)
-}
-
-fn take_ticks(state: State, count: u8, out: &mut [u8]) -> FrameOutcome
-    requires { most_sent ≤ length out.old }
-    ensures { (result ≡ frame_outcome (ticks_frame state count)) × (out.new ≡ over (ticks_frame state count).bytes out.old) }
-{
-    frame_outcome(state.ticks(count, out))
-}
-
-// The number of the model that a byte names.
+// The number of the model that a byte names; no model has the number 0, and `fresh` refuses it as any other.
 fn model_number(byte: u8) -> u32
     ensures { result ≡ model_number byte }
 {
-    if byte == 1 {
-        return 361;
+    match byte {
+        1 => 361,
+        2 => 362,
+        3 => 262,
+        _ => 0,
     }
-    if byte == 2 {
-        return 362;
-    }
-    if byte == 3 {
-        return 262;
-    }
-    0
 }
 
+// A fresh box; where no model has that byte, the box stays.
 fn take_fresh(state: State, byte: u8) -> FrameOutcome
     ensures { result ≡ frame_outcome (fresh_frame state byte) }
 {
-    let o = State::fresh(model_number(byte), 0);
-    let answer = o.answer;
-    let number = answer.number();
-    if number == 0 {
-        let made = o.state;
-        return handed(number, made, 0);
+    let made = State::fresh(model_number(byte), 0);
+    match made.answer {
+        Answer::Accepted => frame_outcome(made),
+        refused => handed(refused.number(), state, 0),
     }
-    handed(number, state, 0)
-}
-
-// The first byte; 0, which begins no frame, where there is none.
-fn first_of(frame: &[u8]) -> u8
-    ensures { result ≡ get_or frame.now 0 0 }
-{
-    if 0 < frame.len() {
-        return frame[0];
-    }
-    0
 }
 
 // The first byte says what is wanted, and how many bytes go with it.
@@ -103,22 +55,25 @@ pub(crate) fn take(state: State, frame: &[u8], out: &mut [u8]) -> FrameOutcome
     requires { most_sent ≤ length out.old }
     ensures { (result ≡ frame_outcome (framed state frame.now)) × (out.new ≡ over (framed state frame.now).bytes out.old) }
 {
-    let len = frame.len();
-    let first = first_of(frame);
-    if (first == 1) & (len <= LONGEST_FRAME) {
-        return take_host(state, frame, out);
+    match frame {
+        [1, host @ ..] if host.len() < LONGEST_FRAME => frame_outcome(state.host(host, out)),
+        [
+            2,
+            channel,
+            kind,
+            status,
+            sign @ 0..=1,
+            high,
+            middle,
+            low,
+            exponent,
+        ] => {
+            let mantissa = mantissa_of(*sign == 1, *high, *middle, *low);
+            frame_outcome(state.reading(*channel, *kind, *status, mantissa, exponent_of(*exponent)))
+        }
+        [3, count] => frame_outcome(state.ticks(*count, out)),
+        [4, model] => take_fresh(state, *model),
+        [5] => frame_outcome(state.power_cycle()),
+        _ => no_frame(state),
     }
-    if (first == 2) & (len == 9) {
-        return take_reading(state, frame);
-    }
-    if (first == 3) & (len == 2) {
-        return take_ticks(state, frame[1], out);
-    }
-    if (first == 4) & (len == 2) {
-        return take_fresh(state, frame[1]);
-    }
-    if (first == 5) & (len == 1) {
-        return frame_outcome(state.power_cycle());
-    }
-    no_frame(state)
 }

@@ -1,10 +1,11 @@
 // A reading of a gauge, and its limits.
 ghost use Rattle.std.specs.Prelude.{◌≡◌};
-ghost use Rattle.gauges.specs.Readings.{no_reading, within_limits};
+ghost use Rattle.gauges.specs.Readings.{value_in_range, sensor_agrees, identifier_agrees, within_limits, no_reading};
 
 use numbers::value::Value;
 
 // The kind of gauge, its status, and its value in hPa.
+// Kind and status are numbers and no enums: `within_limits`, and so answer 5, speaks of readings with any.
 #[derive(Clone, Copy)]
 pub struct Reading {
     pub kind: u8,
@@ -45,20 +46,36 @@ impl Reading {
         }
     }
 
+    fn value_in_range(self) -> bool
+        ensures { result ≡ value_in_range self.value }
+    {
+        self.value.is_number()
+            && (Reading::LEAST_EXPONENT..=Reading::MOST_EXPONENT).contains(&self.value.exponent)
+    }
+
+    // No sensor by the status exactly where there is none by the kind, and the value is then zero.
+    fn sensor_agrees(self) -> bool
+        ensures { result ≡ sensor_agrees self }
+    {
+        let absent = self.kind == Reading::KIND_NO_SENSOR;
+        (self.status == Reading::STATUS_NO_SENSOR) == absent && (!absent || self.value.is_zero())
+    }
+
+    fn identifier_agrees(self) -> bool
+        ensures { result ≡ identifier_agrees self }
+    {
+        (self.status == Reading::STATUS_NO_IDENTIFIER) == (self.kind == Reading::KIND_NO_IDENTIFIER)
+    }
+
     // Whether it is a reading that a gauge can give, where there are so many kinds of them.
+    #[tactic(auto, unfolding(crate::specs::Readings::within_limits))]
     pub fn is_within(self, kinds: u8) -> bool
         ensures { result ≡ within_limits kinds self }
     {
-        let kind = self.kind;
-        let status = self.status;
-        let v = self.value;
-        let e = v.exponent;
-        let known = (kind < kinds) & (status <= Reading::MOST_STATUS);
-        let near = (Reading::LEAST_EXPONENT <= e) & (e <= Reading::MOST_EXPONENT);
-        let absent = kind == Reading::KIND_NO_SENSOR;
-        let sensor = (status == Reading::STATUS_NO_SENSOR) == absent;
-        let identified = (status == Reading::STATUS_NO_IDENTIFIER)
-            == (kind == Reading::KIND_NO_IDENTIFIER);
-        known & (v.is_number() & near) & (sensor & (!absent | v.is_zero())) & identified
+        self.kind < kinds
+            && self.status <= Reading::MOST_STATUS
+            && self.value_in_range()
+            && self.sensor_agrees()
+            && self.identifier_agrees()
     }
 }

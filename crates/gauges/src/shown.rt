@@ -1,6 +1,6 @@
 // What is shown of a reading in the unit chosen: its text, and the switching by it.
 ghost use Rattle.std.specs.Prelude.{◌≡◌};
-ghost use Rattle.text.specs.Page.{page, puts};
+ghost use Rattle.text.specs.Writing.{Wrote};
 ghost use Rattle.gauges.specs.Shown.{in_hpa, shown_of, shown_text, switched};
 
 use crate::reading::Reading;
@@ -8,8 +8,7 @@ use numbers::threshold::Threshold;
 use numbers::units::from_hpa;
 use numbers::value::Value;
 use numerals::writing::value_bytes;
-use text::digits::whole;
-use text::{append, put};
+use text::writer::Writer;
 
 // A reading as it is shown: its status, and its value in the unit chosen.
 #[derive(Clone, Copy)]
@@ -24,12 +23,13 @@ impl Reading {
         ensures { result ≡ in_hpa self }
     {
         if self.status == Reading::STATUS_NO_SENSOR {
-            return Value {
+            Value {
                 mantissa: 20000,
                 exponent: -2,
-            };
+            }
+        } else {
+            self.value
         }
-        self.value
     }
 
     // The reading as replies and switching have it.
@@ -45,47 +45,23 @@ impl Reading {
 
 impl Shown {
     // Whether a switching function of the channel is on after this; `was` is whether it was on before.
+    #[tactic(auto, unfolding(crate::specs::Shown::switched))]
     pub fn switches(self, lower: Threshold, upper: Threshold, was: bool) -> bool
         ensures { result ≡ switched self lower upper was }
     {
         if self.status != Reading::STATUS_OKAY {
             return false;
         }
-        let v = self.value;
-        if v.is_below(lower) {
-            return true;
-        }
-        was & !v.is_above(upper)
+        self.value.is_below(lower) || (was && !self.value.is_above(upper))
     }
 }
 
-// A shown reading put into out from `at` on; a status of one digit goes with the value, without a search for leading zeros.
-pub fn write_shown(out: &mut [u8], at: usize, s: Shown) -> usize
-    ensures { page out.new result ≡ puts (page out.old at) (shown_text s) }
+// A shown reading as it is sent.
+#[tactic(auto, using(text::proofs::Pages::puts_append))]
+pub fn write_shown(out: &mut Writer, s: Shown)
+    ensures { Wrote out.old out.new (shown_text s) }
 {
-    let b = value_bytes(s.value);
-    if s.status < 10 {
-        return append(
-            out,
-            at,
-            &[
-                b'0' + s.status,
-                b',',
-                b[0],
-                b[1],
-                b[2],
-                b[3],
-                b[4],
-                b[5],
-                b[6],
-                b[7],
-                b[8],
-                b[9],
-                b[10],
-            ],
-        );
-    }
-    let a = whole(out, at, s.status as u32);
-    let c = put(out, a, b',');
-    append(out, c, &b)
+    out.whole(u32::from(s.status));
+    out.put(b',');
+    out.append(&value_bytes(s.value));
 }

@@ -1,2 +1,4 @@
-// Laws and definitions only: what every floor says of members, tests, tables and ranges. No function stands here.
+// What every floor says of members, tests, tables and ranges: laws and definitions, and a member of an array by its place.
 #![tactic(auto)]
+
+pub mod places;

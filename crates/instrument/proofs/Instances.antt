@@ -1,4 +1,5 @@
 -- What the definitions give where docs/promises/ names a wrong answer.
+use Rattle.std.specs.Prelude.{Ok}
 use Prim.Native.Nat.{ℕ, ◌≤◌, ◌<◌}
 use mathlib.Core.Path.{◌≡◌, refl}
 use mathlib.Core.List.{List, [], ◌∷◌, ◌++◌, map}
@@ -30,12 +31,12 @@ use Rattle.settings.specs.declared.Settings.{Settings}
 use Rattle.settings.proofs.Every.{models}
 use Rattle.settings.proofs.Storing.{unit_stored}
 use Rattle.lines.specs.declared.word.Word.{Word}
-use Rattle.lines.specs.declared.verdict.Verdict.TheVariants.{Writes}
 use Rattle.instrument.specs.Events.{function_at, is_on, started, following, measured, written, applied}
 use Rattle.instrument.specs.Limits.{gauge_within, instrument_within, InstrumentShaped}
 use Rattle.instrument.specs.Replies.{shown_at, each_channel, reply_text, stream_text}
 use Rattle.instrument.specs.declared.Instrument.{Instrument}
 use Rattle.instrument.proofs.InstrumentLimits.{four_at, instrument_parts}
+use Rattle.lines.specs.declared.verdict.Order.TheVariants.{Writes}
 
 -- ---- power-on and a reading
 
@@ -58,15 +59,15 @@ module _ (s : Instrument) (channel : ℕ) (r : Reading) where
 -- ---- a line
 
 module _ (s : Instrument) (r : Row) where
-  pub unit_written : (applied s (Writes (setting Uni) r)).settings ≡ with_unit s.settings (first_number r)
+  pub unit_written : (applied s (Ok (Writes (setting Uni) r))).settings ≡ with_unit s.settings (first_number r)
   unfolding written
   unit_written = unit_stored s.model s.settings r
 
-  pub sav_zero : first_number r ≡ 0 → (applied s (Writes Sav r)).saved ≡ defaults s.model
+  pub sav_zero : first_number r ≡ 0 → (applied s (Ok (Writes Sav r))).saved ≡ defaults s.model
   unfolding written
   sav_zero e = rw e
 
-  pub assigned_starts : (k : ℕ) → InstrumentShaped s → k ≤ 3 → is_on (applied s (Writes (setting (Sp k)) r)) k ≡ starts_on s.model (first_number r)
+  pub assigned_starts : (k : ℕ) → InstrumentShaped s → k ≤ 3 → is_on (applied s (Ok (Writes (setting (Sp k)) r))) k ≡ starts_on s.model (first_number r)
   unfolding written
   assigned_starts k t h = get_or-set_same s.switches k (starts_on s.model (first_number r)) false (omega (arith, t.switches))
 

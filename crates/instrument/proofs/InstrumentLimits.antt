@@ -1,4 +1,5 @@
 -- Every event keeps the limits of the instrument and the lengths of its arrays, and a refused line changes nothing.
+use Rattle.std.specs.Prelude.{Ok, Err}
 use Prim.Native.Nat.{ℕ, ◌+◌, ◌≤◌, ◌<◌}
 use mathlib.Core.Path.{◌≡◌, refl, sym, ap, subst}
 use mathlib.Core.List.{List, [], ◌∷◌}
@@ -40,12 +41,12 @@ use Rattle.settings.proofs.Tabled.{switching_there}
 use Rattle.settings.proofs.StoredLimits.{defaults_within, defaults_shaped}
 use Rattle.lines.specs.Judging.{judged, effect}
 use Rattle.lines.specs.declared.verdict.Fault.{Fault}
-use Rattle.lines.specs.declared.verdict.Verdict.{Verdict}
-use Rattle.lines.specs.declared.verdict.Verdict.TheVariants.{Asks, Writes, Refused}
 use Rattle.lines.proofs.WrittenLimits.{effect_shaped, effect_within}
 use Rattle.instrument.specs.Events.{each_four, function_at, is_on, started, following, measured, saved_by, switches_by, written, applied}
 use Rattle.instrument.specs.Limits.{gauge_within, reading_within, switch_within, serial_within, instrument_within, InstrumentShaped}
 use Rattle.instrument.specs.declared.Instrument.{Instrument}
+use Rattle.lines.specs.declared.verdict.Order.TheVariants.{Asks, Writes}
+use Rattle.lines.specs.Verdicts.{Verdict}
 
 -- ---- the limits, part by part
 
@@ -213,17 +214,17 @@ module _ (s : Instrument) (r : Row) where
 module _ (s : Instrument) where
   pub applied_shaped : (v : Verdict) → InstrumentShaped s → InstrumentShaped (applied s v)
   unfolding written
-  applied_shaped (Asks m) t = t
-  applied_shaped (Writes m r) t =
+  applied_shaped (Ok (Asks m)) t = t
+  applied_shaped (Ok (Writes m r)) t =
       record {
-        settings = effect_shaped s.model s.settings t.settings (Writes m r);
+        settings = effect_shaped s.model s.settings t.settings (Ok (Writes m r));
         saved = saved_keeps s r SettingsShaped t.settings t.saved (defaults_shaped s.model) m;
         readings = t.readings;
         switches = rw (switches_count s r m) t.switches;
       }
-  applied_shaped (Refused x) t = t
+  applied_shaped (Err x) t = t
 
-  written_within : (line : List ℕ) (m : Mnemonic) (r : Row) → InstrumentShaped s → instrument_within s ≡ true → judged s.model line ≡ Writes m r
+  written_within : (line : List ℕ) (m : Mnemonic) (r : Row) → InstrumentShaped s → instrument_within s ≡ true → judged s.model line ≡ Ok (Writes m r)
       → instrument_within (written s m r) ≡ true
   unfolding written
   written_within line m r t w e =
@@ -241,10 +242,10 @@ module _ (s : Instrument) where
   applied_within line t w = by (judged s.model line) refl
     where
       by : (v : Verdict) → judged s.model line ≡ v → instrument_within (applied s v) ≡ true
-      by (Asks m) e = w
-      by (Writes m r) e = written_within line m r t w e
-      by (Refused x) e = w
+      by (Ok (Asks m)) e = w
+      by (Ok (Writes m r)) e = written_within line m r t w e
+      by (Err x) e = w
 
   -- a refused line changes nothing
-  pub applied_refused : (line : List ℕ) (x : Fault) → judged s.model line ≡ Refused x → applied s (judged s.model line) ≡ s
+  pub applied_refused : (line : List ℕ) (x : Fault) → judged s.model line ≡ Err x → applied s (judged s.model line) ≡ s
   applied_refused line x e = rw e

@@ -1,5 +1,5 @@
 -- What happens to the instrument of a box (01, "Settings" and "Readings, switching, streaming").
-use Rattle.std.specs.Prelude.{ℕ, List, [], ◌∷◌, Bool, false, cond, get_or, set, eqb}
+use Rattle.std.specs.Prelude.{ℕ, List, [], ◌∷◌, Bool, false, cond, get_or, set, eqb, Ok, Err}
 use Rattle.gauges.specs.Readings.{no_reading}
 use Rattle.gauges.specs.Shown.{shown_of, switched}
 use Rattle.gauges.specs.declared.reading.Reading.{Reading}
@@ -15,9 +15,9 @@ use Rattle.settings.specs.declared.mnemonic.Mnemonic.TheVariants.{OfReplying, Co
 use Rattle.settings.specs.declared.rows.Row.{Row}
 use Rattle.settings.specs.declared.Switching.{Switching}
 use Rattle.settings.specs.declared.Settings.{Settings}
-use Rattle.lines.specs.declared.verdict.Verdict.{Verdict}
-use Rattle.lines.specs.declared.verdict.Verdict.TheVariants.{Asks, Writes, Refused}
 use Rattle.instrument.specs.declared.Instrument.{Instrument}
+use Rattle.lines.specs.declared.verdict.Order.TheVariants.{Asks, Writes}
+use Rattle.lines.specs.Verdicts.{Verdict}
 
 -- one status for each of the four switching functions
 abbrev pub each_four : (ℕ → Bool) → List Bool
@@ -87,6 +87,6 @@ written s m r = record {
 
 -- no other line changes anything
 abbrev pub applied : Instrument → Verdict → Instrument
-applied s (Asks a) = s
-applied s (Writes m r) = written s m r
-applied s (Refused x) = s
+applied s (Ok (Asks a)) = s
+applied s (Ok (Writes m r)) = written s m r
+applied s (Err x) = s

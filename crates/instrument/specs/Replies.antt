@@ -1,7 +1,10 @@
 -- What a box sends of its instrument (01, "Readings, switching, streaming" and "Settings"; 02, W-201).
-use Rattle.std.specs.Prelude.{ℕ, List, [], ◌∷◌, ◌++◌, map, Bool, false, get_or, take}
+use Rattle.std.specs.Prelude.{ℕ, ◌≡◌, List, [], ◌∷◌, ◌++◌, map, Bool, false, get_or, take, ⊤}
 use Prim.Native.Char.{code}
+use denote.Ref.{MutBor}
 use Rattle.text.specs.Text.{ascii}
+use Rattle.text.specs.Writing.{Wrote}
+use Rattle.text.specs.declared.writer.Writer.{Writer}
 use Rattle.text.specs.Digits.{padded_text, binary}
 use Rattle.text.specs.Control.{cr_lf}
 use Rattle.gauges.specs.Readings.{no_reading}
@@ -36,6 +39,10 @@ kind_at model rs k = kind_name model (reading_at rs k).kind
 -- "each the model has", commas between
 unfoldable pub each_channel : Model → (ℕ → List ℕ) → List ℕ
 each_channel model text = joined (map text (take (channels model) (0 ∷ 1 ∷ [])))
+
+-- a writer that puts each channel's text behind what is put already
+abbrev pub Writes : (MutBor Writer → ℕ → ⊤ → MutBor Writer → Type 0) → (ℕ → List ℕ) → Type 0
+Writes post text = (out : MutBor Writer) (k : ℕ) (nothing : ⊤) (after : MutBor Writer) → post out k nothing after → Wrote out.now after.now (text k)
 
 -- "SPS sends four digits with commas."
 abbrev pub switches_text : List Bool → List ℕ

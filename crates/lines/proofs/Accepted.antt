@@ -1,4 +1,5 @@
 -- Law (b): a mnemonic, a comma and its cells as they are written is judged as writing those cells, over the whole sheet.
+use Rattle.std.specs.Prelude.{Some, Ok}
 use Prim.Native.Nat.{ℕ, suc, ◌≤◌, ◌<◌}
 use Prim.Native.Char.{code}
 use mathlib.Core.Path.{◌≡◌, refl, ap, ap₂, ◌∙◌}
@@ -19,7 +20,6 @@ use Rattle.settings.specs.Limits.{fits, cells_fit, within}
 use Rattle.settings.specs.declared.model.Model.{Model}
 use Rattle.settings.specs.declared.mnemonic.Setting.{Setting}
 use Rattle.settings.specs.declared.mnemonic.Mnemonic.{Mnemonic}
-use Rattle.settings.specs.declared.mnemonic.Named.TheVariants.{Known}
 use Rattle.settings.specs.declared.table.Kind.{Kind}
 use Rattle.settings.specs.declared.Settings.{Settings}
 use Rattle.settings.proofs.Every.{tested}
@@ -30,12 +30,10 @@ use Rattle.lines.specs.Splitting.{fields, joined}
 use Rattle.lines.specs.Judging.{fields_read, formed, valued, cell_of, judged_fields, with_fields, parted, judged}
 use Rattle.lines.specs.Sheets.{sheet_line}
 use Rattle.lines.specs.Replies.{texts, setting_text}
-use Rattle.lines.specs.declared.verdict.Field.{Field}
-use Rattle.lines.specs.declared.verdict.Field.TheVariants.{Held}
-use Rattle.lines.specs.declared.verdict.Verdict.{Verdict}
-use Rattle.lines.specs.declared.verdict.Verdict.TheVariants.{Writes}
 use Rattle.lines.proofs.Walking.{judged_parts}
 use Rattle.lines.proofs.ReadBack.{Plain, plain_written, sound, reads_back}
+use Rattle.lines.specs.declared.verdict.Order.TheVariants.{Writes}
+use Rattle.lines.specs.Verdicts.{Field, Verdict}
 
 -- ---- fields of what was joined
 
@@ -69,37 +67,37 @@ count_texts : {ks : List Kind} {cs : List Threshold} → AllFit ks cs → length
 count_texts none = refl
 count_texts (next h f) = ap suc (count_texts f)
 
-readings_texts : {ks : List Kind} {cs : List Threshold} → Each (λ k. sound k ≡ true) ks → AllFit ks cs → fields_read ks (texts ks cs) ≡ map Held cs
+readings_texts : {ks : List Kind} {cs : List Threshold} → Each (λ k. sound k ≡ true) ks → AllFit ks cs → fields_read ks (texts ks cs) ≡ map Ok cs
 unfolding fields_read
 readings_texts s none = refl
 readings_texts s (next {k} {c} h f) = ap₂ (λ (r : Field) (rs : List Field). r ∷ rs) (reads_back k c s.0 h) (readings_texts s.1 f)
 
-held_formed : (cs : List Threshold) (v : Verdict) → formed (map Held cs) v ≡ v
+held_formed : (cs : List Threshold) (v : Verdict) → formed (map Ok cs) v ≡ v
 unfolding formed
 held_formed [] v = refl
 held_formed (c ∷ cs) v = held_formed cs v
 
-held_valued : (cs : List Threshold) (v : Verdict) → valued (map Held cs) v ≡ v
+held_valued : (cs : List Threshold) (v : Verdict) → valued (map Ok cs) v ≡ v
 unfolding valued
 held_valued [] v = refl
 held_valued (c ∷ cs) v = held_valued cs v
 
-held_cells : (cs : List Threshold) → map cell_of (map Held cs) ≡ cs
+held_cells : (cs : List Threshold) → map cell_of (map Ok cs) ≡ cs
 held_cells [] = refl
 held_cells (c ∷ cs) = ap (λ (l : List Threshold). c ∷ l) (held_cells cs)
 
-all_held : (m : Mnemonic) (cs : List Threshold) → judged_fields m (map Held cs) ≡ Writes m (row_of cs)
+all_held : (m : Mnemonic) (cs : List Threshold) → judged_fields m (map Ok cs) ≡ Ok (Writes m (row_of cs))
 all_held m cs =
-    held_formed cs (valued (map Held cs) (Writes m (row_of (map cell_of (map Held cs)))))
-    ∙ held_valued cs (Writes m (row_of (map cell_of (map Held cs))))
-    ∙ ap (λ (l : List Threshold). Writes m (row_of l)) (held_cells cs)
+    held_formed cs (valued (map Ok cs) (Ok (Writes m (row_of (map cell_of (map Ok cs))))))
+    ∙ held_valued cs (Ok (Writes m (row_of (map cell_of (map Ok cs)))))
+    ∙ ap (λ (l : List Threshold). Ok (Writes m (row_of l))) (held_cells cs)
 
 -- ---- what the tables say of a mnemonic
 
 -- its name is a part of a line, and names it
 pub record Spelt (model : Model) (m : Mnemonic) : Type 0 where
   pub plain : Plain (name m)
-  pub back : recognised model (name m) ≡ Known m
+  pub back : recognised model (name m) ≡ Some m
 
 -- the model has it, it takes fields, and they read back
 record Taking (model : Model) (m : Mnemonic) : Type 0 where
@@ -115,7 +113,7 @@ module _ (model : Model) (m : Mnemonic) (sp : Spelt model m) where
       ∙ rw (sp.back, h)
 
   with_texts : {ks : List Kind} {cs : List Threshold} → kinds model m ≡ ks → Taking model m → AllFit ks cs
-      → judged model (name m ++ (code "," ∷ joined (texts ks cs))) ≡ Writes m (row_of cs)
+      → judged model (name m ++ (code "," ∷ joined (texts ks cs))) ≡ Ok (Writes m (row_of cs))
   unfolding with_fields
   with_texts e tk none = absurd (omega (arith, tk.some, ap length e))
   with_texts e tk (next {k} {c} {ks} {cs} h f) =
@@ -141,15 +139,15 @@ same_self [] = refl
 same_self (b ∷ s) = rw (eq-eqb b b refl) (same_self s)
 
 -- so each is found by its name
-found_apart : (ms : List Mnemonic) → Pairwise Apart ms → Each (λ m. found (name m) ms ≡ Known m) ms
+found_apart : (ms : List Mnemonic) → Pairwise Apart ms → Each (λ m. found (name m) ms ≡ Some m) ms
 unfolding found
 found_apart [] d = tt
 found_apart (m ∷ ms) d = (
   rw (same_self (name m)),
-  each_both (Apart m) (λ n. found (name n) ms ≡ Known n) _ (λ n a e. rw (not-true (same (name m) (name n)) a) e) ms d.0 (found_apart ms d.1),
+  each_both (Apart m) (λ n. found (name n) ms ≡ Some n) _ (λ n a e. rw (not-true (same (name m) (name n)) a) e) ms d.0 (found_apart ms d.1),
 )
 
-all_found : (model : Model) → Each (λ m. recognised model (name m) ≡ Known m) (known model)
+all_found : (model : Model) → Each (λ m. recognised model (name m) ≡ Some m) (known model)
 unfolding known recognised
 all_found model = found_apart (those (knows model) mnemonics) (pairwise_those Apart (knows model) mnemonics names_apart)
 
@@ -163,7 +161,7 @@ all_commaless = every_each (λ m. commaless (name m)) mnemonics refl
 pub all_spelt : (model : Model) → Each (Spelt model) (known model)
 unfolding known commaless
 all_spelt model =
-    each_both (λ m. commaless (name m) ≡ true) (λ m. recognised model (name m) ≡ Known m) (Spelt model)
+    each_both (λ m. commaless (name m) ≡ true) (λ m. recognised model (name m) ≡ Some m) (Spelt model)
     (λ m p q. record { plain = each_map _ _ (λ b. not-true (eqb b (code ","))) (name m) (every_each _ (name m) p); back = q }) (those (knows model) mnemonics)
     (each_those _ (knows model) mnemonics all_commaless) (all_found model)
 
@@ -183,7 +181,7 @@ sheet_takes model x o =
     }
 
 pub accepted : (model : Model) (x : Setting) → OnSheet model x → (cs : List Threshold) → AllFit (kinds model (setting x)) cs
-    → judged model (name (setting x) ++ (code "," ∷ joined (texts (kinds model (setting x)) cs))) ≡ Writes (setting x) (row_of cs)
+    → judged model (name (setting x) ++ (code "," ∷ joined (texts (kinds model (setting x)) cs))) ≡ Ok (Writes (setting x) (row_of cs))
 accepted model x o cs =
     with_texts model (setting x) (on_sheet (λ x. Spelt model (setting x)) model (sheet_each (Spelt model) model (all_spelt model)) o) refl (sheet_takes model x o)
 
@@ -198,10 +196,10 @@ fit_front (k ∷ ks) (c ∷ cs) [] h e = never (cc)
 fit_front (k ∷ ks) (c ∷ cs) (d ∷ ds) h e = let b = (and-eq-true_iff (fits k c) (cells_fit ks cs ds)).0 e in next b.0 (fit_front ks cs ds (omega arith) b.1)
 
 pub sheet_accepted : (model : Model) (s : Settings) → within model s ≡ true
-    → Each (λ x. judged model (sheet_line model s x) ≡ Writes (setting x) (row_of (cells model s x))) (sheet model)
+    → Each (λ x. judged model (sheet_line model s x) ≡ Ok (Writes (setting x) (row_of (cells model s x)))) (sheet model)
 unfolding setting_text
 sheet_accepted model s w =
-    each_map (OnSheet model) (λ x. judged model (sheet_line model s x) ≡ Writes (setting x) (row_of (cells model s x)))
+    each_map (OnSheet model) (λ x. judged model (sheet_line model s x) ≡ Ok (Writes (setting x) (row_of (cells model s x))))
     (λ x o. accepted model x o (cells model s x)
     (fit_front (kinds model (setting x)) (listed (row s x)) (listed ((setting_entry x).default model)) (few_kinds ((setting_entry x).fields model)) (within_rows model s w x o.holding)))
     (sheet model) (sheet_holds model)

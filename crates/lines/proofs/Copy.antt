@@ -1,5 +1,6 @@
 -- Settings sent as a sheet to another box of the model make the two equal; cut after a line, exactly those named so far are, and the others
 -- are its own in the unit that it then has.
+use Rattle.std.specs.Prelude.{Ok}
 use Prim.Native.Nat.{ℕ, zero, suc, ◌≤◌}
 use mathlib.Core.Path.{◌≡◌, refl, sym, ap, ◌∙◌, subst}
 use mathlib.Core.List.{List, [], ◌∷◌, map}
@@ -25,10 +26,10 @@ use Rattle.settings.proofs.Sheets.{OnSheet, sheet_holds, unit_first, on_sheet, D
 use Rattle.settings.proofs.StoredLimits.{fitting_canon}
 use Rattle.lines.specs.Judging.{judged, effect}
 use Rattle.lines.specs.Replies.{setting_text}
-use Rattle.lines.specs.declared.verdict.Verdict.TheVariants.{Writes}
 use Rattle.lines.specs.Sheets.{sheet_line, settings_after}
 use Rattle.lines.proofs.Accepted.{sheet_accepted}
 use Rattle.lines.proofs.WrittenLimits.{writes_fitting, effect_within, effect_shaped}
+use Rattle.lines.specs.declared.verdict.Order.TheVariants.{Writes}
 
 -- ---- any lines
 
@@ -70,8 +71,8 @@ module _ (model : Model) (a : Settings) where
   next b x = effect model b (judged model (sheet_line model a x))
 
   module _ (wa : within model a ≡ true) where
-    line_accepted : {x : Setting} → OnSheet model x → judged model (sheet_line model a x) ≡ Writes (setting x) (sent x)
-    line_accepted = on_sheet (λ x. judged model (sheet_line model a x) ≡ Writes (setting x) (sent x)) model (sheet_accepted model a wa)
+    line_accepted : {x : Setting} → OnSheet model x → judged model (sheet_line model a x) ≡ Ok (Writes (setting x) (sent x))
+    line_accepted = on_sheet (λ x. judged model (sheet_line model a x) ≡ Ok (Writes (setting x) (sent x))) model (sheet_accepted model a wa)
 
     module _ (b : Settings) {x : Setting} (h : OnSheet model x) where
       line_shaped : SettingsShaped b → SettingsShaped (next b x)

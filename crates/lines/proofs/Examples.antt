@@ -1,4 +1,5 @@
 -- Lines and the verdicts on them, as one statement over a list; and a reply of CF1 sent back is refused.
+use Rattle.std.specs.Prelude.{Ok, Err}
 use Prim.Native.Nat.{ℕ, zero, suc, ◌<◌}
 use Prim.Native.Char.{code}
 use Prim.Native.String.{String}
@@ -30,16 +31,16 @@ use Rattle.lines.specs.Fields.{limited}
 use Rattle.lines.specs.Judging.{fields_read, formed, valued, with_fields, judged}
 use Rattle.lines.specs.Replies.{texts, setting_text, factors_text}
 use Rattle.lines.specs.declared.verdict.Fault.TheVariants.{Syntax}
-use Rattle.lines.specs.declared.verdict.Verdict.{Verdict}
-use Rattle.lines.specs.declared.verdict.Verdict.TheVariants.{Asks, Writes, Refused}
 use Rattle.lines.proofs.Accepted.{Spelt, all_spelt, line_fields, plain_texts}
+use Rattle.lines.specs.declared.verdict.Order.TheVariants.{Asks, Writes}
+use Rattle.lines.specs.Verdicts.{Verdict}
 
 -- a verdict in words: what it asks for, what it writes as a reply would say it, or the error word
 abbrev pub says : Model → Verdict → List ℕ
-says model (Asks a) = ascii "asks " ++ name (OfReplying a)
-says model (Writes m r) =
+says model (Ok (Asks a)) = ascii "asks " ++ name (OfReplying a)
+says model (Ok (Writes m r)) =
     ascii "writes " ++ joined (name m ∷ texts (kinds model m) (take (length (kinds model m)) (listed r)))
-says model (Refused x) = dig 4 (error_word x)
+says model (Err x) = dig 4 (error_word x)
 
 pub record Line : Type 0 where
   pub model : Model
@@ -130,7 +131,7 @@ factor_spelt zero h = known_at (Spelt Tpg362) Tpg362 (all_spelt Tpg362) 22 refl
 factor_spelt (suc zero) h = known_at (Spelt Tpg362) Tpg362 (all_spelt Tpg362) 23 refl
 factor_spelt (suc (suc k)) h = absurd (omega arith)
 
-pub factors_refused : (s : Settings) (k : ℕ) → k < 2 → judged Tpg362 (name (OfReplying (Cf k)) ++ (code "," ∷ factors_text Tpg362 s)) ≡ Refused Syntax
+pub factors_refused : (s : Settings) (k : ℕ) → k < 2 → judged Tpg362 (name (OfReplying (Cf k)) ++ (code "," ∷ factors_text Tpg362 s)) ≡ Err Syntax
 unfolding setting_text with_fields
 factors_refused s k h =
     let ks = kinds Tpg362 (setting Cal) in

@@ -1,4 +1,5 @@
 pub mod Walking
+pub mod Taking
 pub mod Written
 pub mod ReadBack
 pub mod Accepted

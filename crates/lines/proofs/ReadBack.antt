@@ -1,4 +1,5 @@
 -- Law (a): each kind reads what it writes; the bytes that are written, and that none is a comma.
+use Rattle.std.specs.Prelude.{Option, Some, Ok}
 use Prim.Native.Nat.{ℕ, zero, suc, ◌+◌, ◌/◌, ◌%◌, ◌^◌, ◌≤◌, ◌<◌}
 use Prim.Native.Char.{code}
 use mathlib.Core.Path.{◌≡◌, refl, sym, ap, ◌∙◌}
@@ -16,8 +17,6 @@ use Rattle.text.specs.Digits.{dig, bare, whole_text, factor_text}
 use Rattle.numbers.specs.declared.threshold.Threshold.{Threshold}
 use Rattle.numerals.specs.Whole.{whole_of, factor_of}
 use Rattle.numerals.specs.Writing.{sign_byte, scientific}
-use Rattle.numerals.specs.declared.whole.Numeral.{Numeral}
-use Rattle.numerals.specs.declared.whole.Numeral.TheVariants.{Number}
 use Rattle.numerals.proofs.RoundTrip.{whole_round, factor_round, threshold_round}
 use Rattle.settings.specs.Limits.{same_number, inside, fits}
 use Rattle.settings.specs.declared.table.Limits.{Limits}
@@ -25,7 +24,6 @@ use Rattle.settings.specs.declared.table.Kind.{Kind}
 use Rattle.settings.specs.declared.table.Kind.TheVariants.{OfWhole, OfFactor, OfThreshold}
 use Rattle.settings.proofs.Places.{number_plain}
 use Rattle.lines.specs.Fields.{limited, ranged, threshold_field, read, write}
-use Rattle.lines.specs.declared.verdict.Field.TheVariants.{Held}
 
 -- ---- the bytes that are written
 
@@ -83,18 +81,18 @@ sound (OfFactor l) = ltb l.most 100000
 sound OfThreshold = true
 
 -- a number within limits is held as the cell that it came from
-number_held : (l : Limits) (c : Threshold) → inside l c ≡ true → limited l c.mantissa ≡ Held c
+number_held : (l : Limits) (c : Threshold) → inside l c ≡ true → limited l c.mantissa ≡ Ok c
 unfolding limited
-number_held l c f = rw ((and-eq-true_iff (same_number c.exponent (pos 0)) _).0 f).1 (ap Held (sym (number_plain (OfWhole l) c refl f)))
+number_held l c f = rw ((and-eq-true_iff (same_number c.exponent (pos 0)) _).0 f).1 (ap Ok (sym (number_plain (OfWhole l) c refl f)))
 
 -- where every number up to the bound is read back
-numeral_back : (numeral : List ℕ → Numeral) (text : ℕ → List ℕ) (bound : ℕ) → ((n : ℕ) → n < bound → numeral (text n) ≡ Number n)
-    → (l : Limits) (c : Threshold) → ltb l.most bound ≡ true → inside l c ≡ true → ranged l (numeral (text c.mantissa)) ≡ Held c
+numeral_back : (numeral : List ℕ → Option ℕ) (text : ℕ → List ℕ) (bound : ℕ) → ((n : ℕ) → n < bound → numeral (text n) ≡ Some n)
+    → (l : Limits) (c : Threshold) → ltb l.most bound ≡ true → inside l c ≡ true → ranged l (numeral (text c.mantissa)) ≡ Ok c
 numeral_back numeral text bound back l c s f =
     let h = in_range_lem l.least l.most c.mantissa ((and-eq-true_iff (same_number c.exponent (pos 0)) _).0 f).1 in
     ap (ranged l) (back c.mantissa (omega (arith, ltb-true l.most bound s))) ∙ number_held l c f
 
-pub reads_back : (k : Kind) (c : Threshold) → sound k ≡ true → fits k c ≡ true → read k (write k c) ≡ Held c
+pub reads_back : (k : Kind) (c : Threshold) → sound k ≡ true → fits k c ≡ true → read k (write k c) ≡ Ok c
 reads_back (OfWhole l) c s f = numeral_back whole_of whole_text 1000 whole_round l c s f
 reads_back (OfFactor l) c s f = numeral_back factor_of factor_text 100000 factor_round l c s f
 reads_back OfThreshold c s f = ap threshold_field (threshold_round c f)

@@ -1,41 +1,33 @@
 -- The fields of a line one after the other, as the code walks them, are those of the line split at its commas.
+use Rattle.std.specs.Prelude.{Option, Some, None, Ok, Err}
+use Rattle.std.specs.List.{position, position_or_len, filter, list_any}
 use Prim.Native.Nat.{ℕ, zero, suc, ◌+◌, ◌-◌, ◌≤◌, ◌<◌}
 use mathlib.Core.Path.{◌≡◌, refl, sym, ap, ◌∙◌, subst}
 use mathlib.Core.Logic.{⊎_elim}
 use mathlib.Core.List.{List, [], ◌∷◌}
-use mathlib.Core.Bool.{Bool, true, false, cond}
+use mathlib.Core.Bool.{Bool, true, false, not, cond, ◌||◌}
 use native.Mathlib.Omega.{arith}
 use native.Mathlib.Numerals.{add-one}
-use borrow.Author.Tests.{eq-eqb, ne_eqb}
-use lib.ListN.{length, get_or, take, drop, drop_of_length-le, length-drop}
-use lib.Seq.{drop-cons, drop-drop}
+use borrow.Author.Tests.{eq-eqb, ne_eqb, ltb-true, ltb-false}
+use lib.ListN.{length, take, drop}
+use lib.Seq.{take_all}
 use lib.Dec.{eqb, ltb}
-use Rattle.ground.proofs.Cases.{below, cond_cases}
+use Rattle.ground.proofs.Cases.{never, below, cond_cases}
 use Rattle.text.specs.Spans.{until}
 use Rattle.text.proofs.Marks.{until_few}
-use Rattle.numbers.specs.declared.threshold.Threshold.{Threshold}
-use Rattle.numerals.specs.Runs.{part}
-use Rattle.settings.specs.Rows.{plain}
-use Rattle.settings.specs.Table.{kinds_of, entry, on, kinds}
+use Rattle.settings.specs.Table.{kinds_of, kind_at, entry, on, kinds}
 use Rattle.settings.specs.Mnemonics.{recognised, is_there}
 use Rattle.settings.specs.declared.model.Model.{Model}
 use Rattle.settings.specs.declared.mnemonic.Mnemonic.{Mnemonic}
-use Rattle.settings.specs.declared.mnemonic.Named.{Named}
-use Rattle.settings.specs.declared.mnemonic.Named.TheVariants.{Known}
-use Rattle.settings.specs.declared.table.Kind.{Kind}
 use Rattle.settings.specs.declared.table.Fields.{Fields}
 use Rattle.settings.specs.declared.table.Entry.{Entry}
 use Rattle.settings.proofs.Names.{not_three}
 use Rattle.settings.proofs.Tabled.{few, count_kinds}
 use Rattle.lines.specs.Splitting.{fields, on_first, word, behind}
-use Rattle.lines.specs.Fields.{read}
-use Rattle.lines.specs.Judging.{fields_read, formed, valued, judged_fields, alone, with_fields, named, parted, judged}
-use Rattle.lines.specs.Walk.{head_field, beyond, Taken}
-use Rattle.lines.specs.declared.verdict.Fault.TheVariants.{Syntax, Hardware}
-use Rattle.lines.specs.declared.verdict.Field.{Field}
-use Rattle.lines.specs.declared.verdict.Field.TheVariants.{Held}
-use Rattle.lines.specs.declared.verdict.Verdict.TheVariants.{Refused}
-use Rattle.lines.specs.declared.fields.FieldOutcome.{FieldOutcome}
+use Rattle.lines.specs.Judging.{fields_read, form_or, formed, valued, judged_fields, alone, with_fields, named, parted, judged}
+use Rattle.lines.specs.Walk.{others, head_field, beyond}
+use Rattle.lines.specs.declared.verdict.Fault.TheVariants.{Syntax, Parameter, Hardware}
+use Rattle.lines.specs.Verdicts.{Field, Verdict}
 
 -- ---- a first field, and the others
 
@@ -63,7 +55,7 @@ split [] = ((λ e. refl), (λ h. absurd (omega arith)))
 split (b ∷ s) = split_by (eqb b 44) b s (word s) (fields s) (split s).0 (split s).1
 
 -- the word is the beginning of the line
-word_is : (s : List ℕ) → word s ≡ take (length (word s)) s
+pub word_is : (s : List ℕ) → word s ≡ take (length (word s)) s
 unfolding until
 word_is [] = refl
 word_is (b ∷ s) = cond_cases (λ w. w ≡ take (length w) (b ∷ s)) (eqb b 44) [] (b ∷ word s) (λ _. refl) (λ _. ap (λ (l : List ℕ). b ∷ l) (word_is s))
@@ -85,73 +77,72 @@ next_of s = either_fields (λ fs. 2 ≤ length fs → fs ≡ word s ∷ fields (
 last_of : (s : List ℕ) → length (fields s) ≡ 1 → fields s ≡ word s ∷ []
 last_of s = either_fields (λ fs. length fs ≡ 1 → fs ≡ word s ∷ []) s (λ h. refl) (λ h. absurd (omega (arith, some_fields (behind s))))
 
-first_field : (s : List ℕ) → fields s ≡ word s ∷ drop 1 (fields s)
-first_field s = either_fields (λ fs. fs ≡ word s ∷ drop 1 fs) s refl refl
+-- the fields behind the first comma, if there is one
+abbrev pub fields_of : Option (List ℕ) → List (List ℕ)
+fields_of (Some t) = fields t
+fields_of None = []
 
--- ---- one byte more
+first_field : (s : List ℕ) → fields s ≡ word s ∷ fields_of (others s)
+first_field s =
+    cond_cases (λ o. fields s ≡ word s ∷ fields_of o) (ltb (length (word s)) (length s)) (Some (behind s)) None
+    (λ h. (split s).1 (ltb-true (length (word s)) (length s) h)) (λ h. (split s).0 (omega (arith, word_short s, ltb-false (length (word s)) (length s) h)))
 
-module _ (i : ℕ) (s : List ℕ) where
-  pub fields_here : i < length s → get_or s i 0 ≡ 44 → length (fields (drop i s)) ≡ suc (length (fields (drop (i + 1) s)))
-  unfolding fields
-  fields_here h e = rw (add-one i, drop-cons s i 0 h, eq-eqb _ _ e)
+-- ---- the commas
 
-  pub fields_on : i < length s → (get_or s i 0 ≡ 44 → ⊥) → length (fields (drop i s)) ≡ length (fields (drop (i + 1) s))
-  unfolding fields
-  fields_on h e = rw (add-one i, drop-cons s i 0 h, ne_eqb _ _ e) (first_count (get_or s i 0) (fields (drop (suc i) s)) (some_fields (drop (suc i) s)))
+abbrev pub is_comma : ℕ → Bool
+is_comma b = eqb b 44
 
-  pub fields_end : length s ≤ i → length (fields (drop i s)) ≡ 1
-  unfolding fields
-  fields_end h = rw (drop_of_length-le s h)
+first_comma : (s : List ℕ) → position_or_len is_comma s ≡ length (word s)
+unfolding until
+first_comma [] = refl
+first_comma (b ∷ s) = by (eqb b 44) (first_comma s)
+  where
+    by : (t : Bool) → position_or_len is_comma s ≡ length (word s) → cond (not t) (1 + position_or_len is_comma s) 0 ≡ length (cond t [] (b ∷ word s))
+    by true e = refl
+    by false e = omega (arith, e)
 
--- ---- the place of the next field
+-- a comma stands at the place i, or none at all
+pub comma_at : (s : List ℕ) (i : ℕ) → position is_comma s ≡ Some i → (take i s ≡ word s) × (Some (drop (i + 1) s) ≡ others s)
+comma_at s i e = by (ltb (length (word s)) (length s)) refl (rw (first_comma s) at e)
+  where
+    by : (t : Bool) → ltb (length (word s)) (length s) ≡ t → cond t (Some (length (word s))) None ≡ Some i
+        → (take i s ≡ word s) × (Some (drop (i + 1) s) ≡ others s)
+    by true h p =
+        let q : length (word s) ≡ i = cc in
+        (sym (rw q at (word_is s)), rw (add-one i, h, q))
+    by false h p = never (cc)
 
-module _ (s : List ℕ) (a : ℕ) (h : a ≤ length s) where
-  pub end_inside : a + length (word (drop a s)) ≤ length s
-  end_inside = omega (arith, word_short (drop a s), length-drop a s)
+pub comma_none : (s : List ℕ) → position is_comma s ≡ None → (s ≡ word s) × (None ≡ others s)
+comma_none s e = by (ltb (length (word s)) (length s)) refl (rw (first_comma s) at e)
+  where
+    by : (t : Bool) → ltb (length (word s)) (length s) ≡ t → cond t (Some (length (word s))) None ≡ None → (s ≡ word s) × (None ≡ others s)
+    by true h p = never (cc)
+    by false h p =
+        let l : length s ≤ length (word s) = ltb-false (length (word s)) (length s) h in
+        (sym (word_is s ∙ take_all (length (word s)) s l), rw h)
 
-  field_is : part a (a + length (word (drop a s))) s ≡ word (drop a s)
-  field_is = let e : a + length (word (drop a s)) - a ≡ length (word (drop a s)) = omega arith in rw e (sym (word_is (drop a s)))
-
-  next_is : drop (a + length (word (drop a s)) + 1) s ≡ behind (drop a s)
-  next_is =
-      let e : a + suc (length (word (drop a s))) ≡ a + length (word (drop a s)) + 1 = omega arith in
-      sym (drop-drop (suc (length (word (drop a s)))) a s ∙ ap (λ (n : ℕ). drop n s) e)
-
-  end_is : length s ≤ a + length (word (drop a s)) → drop (a + length (word (drop a s))) s ≡ behind (drop a s)
-  end_is l =
-      drop_of_length-le s l ∙ sym (drop_of_length-le (drop a s) {i = suc (length (word (drop a s)))} (omega (arith, length-drop a s)))
-
-module _ (has : Bool) (k : Kind) (s : List ℕ) (a : ℕ) (h : a ≤ length s) where
-  pub taken_not : has ≡ false → (c : Threshold) → c ≡ plain 0 → Taken has k s a (record { field = Held c; next = a })
-  taken_not o c e = record { field = rw (o, e); rest = rw o; inside = h }
-
-  module _ (o : has ≡ true) (e : ℕ) (f : Field) (p : e ≡ a + length (word (drop a s))) (q : f ≡ read k (part a e s)) where
-    field_read : f ≡ head_field has k (drop a s)
-    field_read = rw o (q ∙ ap (read k) (ap (λ (n : ℕ). part a n s) p ∙ field_is s a h))
-
-    pub taken_next : e < length s → Taken has k s a (record { field = f; next = e + 1 })
-    taken_next l = record { field = field_read; rest = rw o (ap (λ (n : ℕ). drop (n + 1) s) p ∙ next_is s a h); inside = omega arith }
-
-    pub taken_last : length s ≤ e → Taken has k s a (record { field = f; next = e })
-    taken_last l = record {
-      field = field_read;
-      rest = rw o (ap (λ (n : ℕ). drop n s) p ∙ end_is s a h (omega arith));
-      inside = omega (arith, end_inside s a h);
-    }
+pub more_commas : (s : List ℕ) → length (filter is_comma s) + 1 ≡ length (fields s)
+unfolding fields
+more_commas [] = refl
+more_commas (b ∷ s) = by (eqb b 44) (more_commas s)
+  where
+    by : (t : Bool) → length (filter is_comma s) + 1 ≡ length (fields s)
+        → length (cond t (b ∷ filter is_comma s) (filter is_comma s)) + 1 ≡ length (cond t ([] ∷ fields s) (on_first b (fields s)))
+    by true e = omega (arith, e)
+    by false e = e ∙ sym (first_count b (fields s) (some_fields s))
 
 -- ---- up to three fields, one after the other
 
 -- the fields that are read from what is left of a line, with nothing where there is no kind
-abbrev walked : Fields → List ℕ → List Field
+abbrev pub walked : Fields → List ℕ → List Field
 walked f s =
-    let n = f.count in
-    let t = beyond (ltb 0 n) s in
-    head_field (ltb 0 n) f.first s ∷ head_field (ltb 1 n) f.others t ∷ head_field (ltb 2 n) f.others (beyond (ltb 1 n) t) ∷ []
+    let t = beyond (kind_at f 0) s in
+    head_field (kind_at f 0) s ∷ head_field (kind_at f 1) t ∷ head_field (kind_at f 2) (beyond (kind_at f 1) t) ∷ []
 
 -- reading them so is reading the list of fields
 walked_is : (m : Mnemonic) (f : Fields) (s : List ℕ) → length (fields s) ≡ f.count → f.count ≤ 3
     → judged_fields m (walked f s) ≡ judged_fields m (fields_read (kinds_of f) (fields s))
-unfolding fields_read formed valued
+unfolding fields_read formed valued kind_at
 walked_is m f s = by f.count
   where
     by : (n : ℕ) → length (fields s) ≡ n → n ≤ 3
@@ -170,10 +161,26 @@ walked_is m f s = by f.count
         rw (a, b, c)
     by (suc (suc (suc (suc n)))) e h = absurd (omega arith)
 
-walked_by : (f : Fields) (s : List ℕ) (a : ℕ) (x y z : FieldOutcome)
-    → Taken (ltb 0 f.count) f.first s a x → Taken (ltb 1 f.count) f.others s x.next y → Taken (ltb 2 f.count) f.others s y.next z
-    → x.field ∷ y.field ∷ z.field ∷ [] ≡ walked f (drop a s)
-walked_by f s a x y z p q r = rw (p.field, q.field, r.field, q.rest, p.rest)
+-- ---- the form of all fields, then the value of each
+
+abbrev pub malformed : Field → Bool
+malformed (Ok c) = false
+malformed (Err Syntax) = true
+malformed (Err Parameter) = false
+malformed (Err Hardware) = false
+
+form_first : (f : Field) (b : Bool) (v : Verdict) → form_or f (cond b (Err Syntax) v) ≡ cond (malformed f || b) (Err Syntax) v
+form_first (Ok c) b v = refl
+form_first (Err Syntax) b v = refl
+form_first (Err Parameter) b v = refl
+form_first (Err Hardware) b v = refl
+
+pub all_formed : (rs : List Field) (v : Verdict) → formed rs v ≡ cond (list_any malformed rs) (Err Syntax) v
+unfolding formed
+all_formed [] v = refl
+all_formed (r ∷ rs) v = ap (form_or r) (all_formed rs v) ∙ form_first r (list_any malformed rs) v
+
+-- ---- the number of fields
 
 judged_by : (model : Model) (m : Mnemonic) (fs : List (List ℕ)) → 1 ≤ length fs → length fs ≡ length (kinds model m)
     → judged_fields m (fields_read (kinds model m) fs) ≡ with_fields model m fs
@@ -181,42 +188,26 @@ unfolding with_fields
 judged_by model m [] h e = absurd (omega arith)
 judged_by model m (f ∷ fs) h e = rw (eq-eqb (length (f ∷ fs)) (length (kinds model m)) e)
 
-wrong_by : (model : Model) (m : Mnemonic) (fs : List (List ℕ)) → 1 ≤ length fs → (length fs ≡ length (kinds model m) → ⊥) → Refused Syntax ≡ with_fields model m fs
+wrong_by : (model : Model) (m : Mnemonic) (fs : List (List ℕ)) → 1 ≤ length fs → (length fs ≡ length (kinds model m) → ⊥) → Err Syntax ≡ with_fields model m fs
 unfolding with_fields
 wrong_by model m [] h e = absurd (omega arith)
 wrong_by model m (f ∷ fs) h e = rw (ne_eqb (length (f ∷ fs)) (length (kinds model m)) e)
 
--- the fields of a line from place a on, by the row of its mnemonic
-module _ (model : Model) (m : Mnemonic) (e : Entry) (q : e ≡ on model (entry m)) (s : List ℕ) (a : ℕ) where
+-- the fields of a line, by the row of its mnemonic
+module _ (model : Model) (m : Mnemonic) (e : Entry) (q : e ≡ on model (entry m)) (s : List ℕ) where
   counted : length (kinds model m) ≡ e.fields.count
   counted = count_kinds ((entry m).fields model) (few model m) ∙ sym (ap (λ (r : Entry). r.fields.count) q)
 
-  pub fields_judged : (x y z : FieldOutcome) → length (fields (drop a s)) ≡ e.fields.count → Taken (ltb 0 e.fields.count) e.fields.first s a x
-      → Taken (ltb 1 e.fields.count) e.fields.others s x.next y → Taken (ltb 2 e.fields.count) e.fields.others s y.next z
-      → judged_fields m (x.field ∷ y.field ∷ z.field ∷ []) ≡ with_fields model m (fields (drop a s))
-  fields_judged x y z n p t r =
-      ap (judged_fields m) (walked_by ((entry m).fields model) s a x y z (rw q at p) (rw q at t) (rw q at r))
-      ∙ walked_is m ((entry m).fields model) (drop a s) (n ∙ ap (λ (r : Entry). r.fields.count) q) (few model m)
-      ∙ judged_by model m (fields (drop a s)) (some_fields (drop a s)) (n ∙ sym counted)
+  pub fields_judged : length (fields s) ≡ e.fields.count → judged_fields m (walked e.fields s) ≡ with_fields model m (fields s)
+  fields_judged n =
+      ap (λ (r : Entry). judged_fields m (walked r.fields s)) q
+      ∙ walked_is m ((entry m).fields model) s (n ∙ ap (λ (r : Entry). r.fields.count) q) (few model m)
+      ∙ judged_by model m (fields s) (some_fields s) (n ∙ sym counted)
 
-  pub fields_wrong : (length (fields (drop a s)) ≡ e.fields.count → ⊥) → Refused Syntax ≡ with_fields model m (fields (drop a s))
-  fields_wrong n = wrong_by model m (fields (drop a s)) (some_fields (drop a s)) (λ c. n (c ∙ counted))
+  pub fields_wrong : (length (fields s) ≡ e.fields.count → ⊥) → Err Syntax ≡ with_fields model m (fields s)
+  fields_wrong n = wrong_by model m (fields s) (some_fields s) (λ c. n (c ∙ counted))
 
 -- ---- a whole line
-
--- a known mnemonic that ends at the place e
-module _ (model : Model) (m : Mnemonic) (s : List ℕ) (e : ℕ) (q : e ≡ length (word s)) where
-  pub known_more : is_there model m ≡ true → e < length s → with_fields model m (fields (drop (e + 1) s)) ≡ named model (Known m) (drop 1 (fields s))
-  known_more p h =
-      let n : e + 1 ≡ suc (length (word s)) = omega arith in
-      rw (p, (split s).1 (omega arith)) (ap (λ (k : ℕ). with_fields model m (fields (drop k s))) n)
-
-  pub known_alone : is_there model m ≡ true → length s ≤ e → alone model m ≡ named model (Known m) (drop 1 (fields s))
-  unfolding with_fields
-  known_alone p h = rw (p, (split s).0 (omega (arith, word_short s)))
-
-pub known_not : (model : Model) (m : Mnemonic) (fs : List (List ℕ)) → is_there model m ≡ false → Refused Hardware ≡ named model (Known m) fs
-known_not model m fs p = rw p
 
 module _ (model : Model) where
   -- the empty line names nothing, so it too is judged by its parts, and the first test needs no code of its own
@@ -225,17 +216,23 @@ module _ (model : Model) where
   judged_parts [] = rw (not_three model [] (λ e. omega arith))
   judged_parts (b ∷ line) = refl
 
-  -- the word before the first comma, which ends at the place e, names the mnemonic
-  pub line_named : (s : List ℕ) (e : ℕ) → e ≡ length (word s) → (c : Named) → recognised model (take e s) ≡ c → named model c (drop 1 (fields s)) ≡ judged model s
-  line_named s e q c p =
-      let w : word s ≡ take e s = word_is s ∙ ap (λ (n : ℕ). take n s) (sym q) in
-      sym (judged_parts s ∙ ap (parted model) (first_field s) ∙ ap (λ (c : Named). named model c (drop 1 (fields s))) (ap (recognised model) w ∙ p))
+  -- the word before the first comma names the mnemonic
+  module _ (s : List ℕ) {w : List ℕ} (p : w ≡ word s) where
+    named_by : (c : Option Mnemonic) → c ≡ recognised model w → named model c (fields_of (others s)) ≡ judged model s
+    named_by c q = sym (judged_parts s ∙ ap (parted model) (first_field s) ∙ rw (q, p))
 
--- ---- the mnemonic at the front of a line
+    pub line_unknown : None ≡ recognised model w → Err Syntax ≡ judged model s
+    line_unknown q = named_by None q
 
--- three letters are the word that ends behind them
-pub three_front : (s : List ℕ) → 3 ≤ length s → get_or s 0 0 ∷ get_or s 1 0 ∷ get_or s 2 0 ∷ [] ≡ take 3 s
-three_front [] h = absurd (omega arith)
-three_front (x ∷ []) h = absurd (omega arith)
-three_front (x ∷ y ∷ []) h = absurd (omega arith)
-three_front (x ∷ y ∷ z ∷ s) h = refl
+    module _ (m : Mnemonic) (q : Some m ≡ recognised model w) where
+      pub line_lacking : is_there model m ≡ false → Err Hardware ≡ judged model s
+      line_lacking h = rw h at (named_by (Some m) q)
+
+      pub line_more : is_there model m ≡ true → (t : List ℕ) → Some t ≡ others s → with_fields model m (fields t) ≡ judged model s
+      line_more h t o = rw (h, ← o) at (named_by (Some m) q)
+
+      pub line_alone : is_there model m ≡ true → None ≡ others s → alone model m ≡ judged model s
+      unfolding with_fields
+      line_alone h o = rw (h, ← o) at (named_by (Some m) q)
+
+pub ruleset of_lines = (line_unknown, line_lacking, line_more, line_alone)

@@ -1,5 +1,6 @@
 pub mod Splitting
 pub mod Words
+pub mod Verdicts
 pub mod Fields
 pub mod Judging
 pub mod Replies

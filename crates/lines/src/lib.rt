@@ -1,4 +1,4 @@
-// A line from the host, judged: it asks, it writes, or it is refused with its first fault; and the reply of each setting.
+// A line from the host, judged: it asks, it writes, or it is refused with its first fault; and each setting's reply.
 #![tactic(auto)]
 
 pub mod fields;

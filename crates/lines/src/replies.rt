@@ -1,6 +1,6 @@
 // The reply of each setting.
 ghost use Rattle.std.specs.Prelude.{◌≡◌, ◌++◌};
-ghost use Rattle.text.specs.Page.{page, puts};
+ghost use Rattle.text.specs.Writing.{Wrote};
 ghost use Rattle.text.specs.Control.{cr_lf};
 ghost use Rattle.lines.specs.Fields.{write};
 ghost use Rattle.lines.specs.Replies.{setting_text, factors_text};
@@ -13,66 +13,64 @@ use settings::mnemonic::{Mnemonic, Replying, Setting};
 use settings::model::Model;
 use settings::table::Kind;
 use text::control::{CR, LF};
-use text::digits::{factor, whole};
-use text::{append, put};
+use text::writer::Writer;
 
-fn write_cell(out: &mut [u8], at: usize, kind: Kind, cell: Threshold) -> usize
-    ensures { page out.new result ≡ puts (page out.old at) (write kind cell) }
+fn write_cell(out: &mut Writer, kind: Kind, cell: Threshold)
+    ensures { Wrote out.old out.new (write kind cell) }
 {
     match kind {
-        Kind::OfWhole(_) => whole(out, at, cell.mantissa),
-        Kind::OfFactor(_) => factor(out, at, cell.mantissa),
-        Kind::OfThreshold => write_threshold(out, at, cell),
+        Kind::OfWhole(_) => out.whole(cell.mantissa),
+        Kind::OfFactor(_) => out.factor(cell.mantissa),
+        Kind::OfThreshold => write_threshold(out, cell),
     }
 }
 
-// A comma and one cell more, where the model has it.
-fn write_more(out: &mut [u8], at: usize, has: bool, kind: Kind, cell: Threshold) -> usize
-    ensures { page out.new result ≡ puts (page out.old at) (more has kind cell) }
+// A comma and one cell more, if there is one.
+#[tactic(auto, using(text::proofs::Pages::puts_append))]
+fn write_more(out: &mut Writer, kind: Option<Kind>, cell: Threshold)
+    ensures { Wrote out.old out.new (more kind cell) }
 {
-    if has {
-        let a = put(out, at, b',');
-        return write_cell(out, a, kind, cell);
+    if let Some(k) = kind {
+        out.put(b',');
+        write_cell(out, k, cell);
     }
-    at
 }
 
 // The cells of a setting, commas between.
-fn write_setting(out: &mut [u8], at: usize, model: Model, s: Settings, x: Setting) -> usize
-    ensures { page out.new result ≡ puts (page out.old at) (setting_text model s x) }
+#[tactic(auto, using(text::proofs::Pages::puts_append, crate::proofs::Written::setting_none, crate::proofs::Written::setting_written))]
+fn write_setting(out: &mut Writer, model: Model, s: Settings, x: Setting)
+    ensures { Wrote out.old out.new (setting_text model s x) }
 {
-    let e = model.entry(Mnemonic::OfReplying(Replying::OfSetting(x)));
-    let f = e.fields;
-    let n = f.count;
-    let first = f.first;
-    let others = f.others;
+    let f = model
+        .entry(Mnemonic::OfReplying(Replying::OfSetting(x)))
+        .fields;
     let r = s.row(x);
-    if n == 0 {
-        return at;
+    if let Some(kind) = f.kind(0) {
+        write_cell(out, kind, r.first);
+        write_more(out, f.kind(1), r.second);
+        write_more(out, f.kind(2), r.third);
     }
-    let a = write_cell(out, at, first, r.first);
-    let b = write_more(out, a, 1 < n, others, r.second);
-    write_more(out, b, 2 < n, others, r.third)
 }
 
 // CR LF.
-pub fn end_line(out: &mut [u8], at: usize) -> usize
-    ensures { page out.new result ≡ puts (page out.old at) cr_lf }
+pub fn end_line(out: &mut Writer)
+    ensures { Wrote out.old out.new cr_lf }
 {
-    append(out, at, &[CR, LF])
+    out.append(&[CR, LF]);
 }
 
 // What the box sends when it is asked for a setting.
-pub fn setting_reply(out: &mut [u8], at: usize, model: Model, s: Settings, x: Setting) -> usize
-    ensures { page out.new result ≡ puts (page out.old at) (setting_text model s x ++ cr_lf) }
+#[tactic(auto, using(text::proofs::Pages::puts_append))]
+pub fn setting_reply(out: &mut Writer, model: Model, s: Settings, x: Setting)
+    ensures { Wrote out.old out.new (setting_text model s x ++ cr_lf) }
 {
-    let a = write_setting(out, at, model, s, x);
-    end_line(out, a)
+    write_setting(out, model, s, x);
+    end_line(out);
 }
 
 // What the box sends when it is asked for CF1 or CF2: the factors of all its channels.
-pub fn factors_reply(out: &mut [u8], at: usize, model: Model, s: Settings) -> usize
-    ensures { page out.new result ≡ puts (page out.old at) (factors_text model s ++ cr_lf) }
+pub fn factors_reply(out: &mut Writer, model: Model, s: Settings)
+    ensures { Wrote out.old out.new (factors_text model s ++ cr_lf) }
 {
-    setting_reply(out, at, model, s, Setting::Cal)
+    setting_reply(out, model, s, Setting::Cal);
 }

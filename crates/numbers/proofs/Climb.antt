@@ -67,3 +67,5 @@ module _ (z m to : ℕ) where
 
 pub ten_more : (n z : ℕ) → n * 10 ^ z * 10 ≡ n * 10 ^ (z + 1)
 ten_more n z = rw (add-one z, pow-suc) (omega arith)
+
+pub ruleset one_turn = (climb_more, climb_done, climb_end, ten_more)

@@ -132,3 +132,5 @@ module _ (t : Threshold) (r : Ratio) where
       ⊎_elim (λ (n : within_stops t && is_usable r ≡ false). subst (λ u. within_stops u ≡ true) (multiplied_not n) w)
       (λ (h : within_stops t && is_usable r ≡ true). rw (multiplied_is h) (held_stops (product five (as_value t) r) (product_five h)))
       (dichotomy (within_stops t && is_usable r))
+
+pub ruleset held_cases = (held_least, held_most, held_stays)

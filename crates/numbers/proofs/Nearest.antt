@@ -1,10 +1,10 @@
 -- Significant digits, half upwards: where n / d is placed, how far its digits and its power reach, that they are the nearest, and alone are.
-use Prim.Native.Nat.{ℕ, suc, ◌+◌, ◌-◌, ◌*◌, ◌/◌, ◌%◌, ◌^◌, ◌≤◌, ◌<◌}
-use mathlib.Core.Path.{◌≡◌, sym, ap, ◌∙◌}
+use Prim.Native.Nat.{ℕ, suc, ◌+◌, ◌-◌, ◌*◌, ◌/◌, ◌^◌, ◌≤◌, ◌<◌}
+use mathlib.Core.Path.{◌≡◌, ap, ◌∙◌}
 use mathlib.Core.Bool.{true, false}
 use mathlib.Core.Logic.{◌↔◌, ⊎_elim}
 use native.Mathlib.Omega.{arith}
-use native.Mathlib.Nat.{mul-le-mul, mul-le-mul_left, mul-le-mul_right, mul-lt-mul_of_pos_right, lt_of_mul-lt-mul_right, le_of_mul-le-mul_right, mul-pos, one-le-pow, pow-le-pow_right, div-mul-le_self, lt-div-mul-add, le-div_iff_mul-le, div-lt_iff_lt-mul, div-eq_of_lt-le, div-add-mod', mod-lt}
+use native.Mathlib.Nat.{mul-le-mul, mul-le-mul_left, mul-le-mul_right, mul-lt-mul_of_pos_right, lt_of_mul-lt-mul_right, le_of_mul-le-mul_right, mul-pos, one-le-pow, pow-le-pow_right, div-mul-le_self, lt-div-mul-add, le-div_iff_mul-le, div-lt_iff_lt-mul}
 use native.Mathlib.Numerals.{add-one}
 use lib.Pow.{pow-add}
 use borrow.Author.Tests.{eqb-true, eqb-false, le-ltb}
@@ -17,17 +17,6 @@ use Rattle.numbers.specs.declared.threshold.Threshold.{Threshold}
 use Rattle.numbers.proofs.Climb.{climb_reaches, climb_enough, climb_none, climb_short}
 use Rattle.numbers.proofs.Signed.{abs_add, abs_minus}
 use Rattle.numbers.proofs.Fractions.{tens_some, tenths_some, tens_more, tens_apart, tens_level}
-
--- the quotient, or one more where the remainder is at least half of d
-module _ (n d : ℕ) (h : 0 < d) where
-  nearest_is : (q : ℕ) → q * (2 * d) ≤ 2 * n + d → 2 * n + d < (q + 1) * (2 * d) → nearest n d ≡ q
-  nearest_is q l u = div-eq_of_lt-le (2 * d) l u
-
-  pub nearest_up : d - n % d ≤ n % d → n / d + 1 ≡ nearest n d
-  nearest_up l = let m = mod-lt n h in sym (nearest_is (n / d + 1) (omega (arith, div-add-mod' n d)) (omega (arith, div-add-mod' n d)))
-
-  pub nearest_stay : n % d < d - n % d → n / d ≡ nearest n d
-  nearest_stay l = let m = mod-lt n h in sym (nearest_is (n / d) (omega (arith, div-add-mod' n d)) (omega (arith, div-add-mod' n d)))
 
 -- twice the error is at most d, and a half goes upwards
 pub nearest_bounds : (n d : ℕ) → 0 < d → (2 * (nearest n d * d) ≤ 2 * n + d) × (2 * n < 2 * (nearest n d * d) + d)

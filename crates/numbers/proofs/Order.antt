@@ -11,8 +11,11 @@ use lib.Dec.{T, ltb}
 use lib.IntN.{ℤ, pos, negsuc, neg_ℤ, nat_abs, ◌*ℤ◌}
 use lib.Signed.{lt_z, le_z, non_neg, pos-nat_abs}
 use mir.Syntax.{w32}
-use mir.Val.{Fits, SFits, to_z, of_z}
-use mir.Facts.{to_z-of_z, Fits-nat_abs}
+use mir.Val.{SFits, to_z, of_z}
+use mir.Facts.{to_z-of_z}
+use Rattle.std.proofs.Common.{Ordering}
+use Rattle.std.specs.Ordering.{nat_cmp, int_cmp, ordering_then, is_lt, is_gt}
+use Rattle.std.proofs.lemmas.Bool.Decides.{nat_tests}
 use Rattle.ground.proofs.Cases.{below, and_both, and_not_both}
 use Rattle.numbers.specs.Numbers.{five, OfDigits, is_number, within_stops, tens, tenths, less, as_value, unsigned, is_below, is_above}
 use Rattle.numbers.specs.Rounding.{levelled}
@@ -74,6 +77,31 @@ module _ (m : ℕ) (e : ℤ) (n : ℕ) (f : ℤ) where
   pub same_exponent : lt_z e f ≡ false → lt_z f e ≡ false → smaller m e n f ≡ ltb m n
   same_exponent h k = rw (not_lt_not_gt e f h k) (factor m n _ (powers f f))
 
+-- the order of the exponents, and then of the digits, as `cmp` of the two finds it
+module _ (m : ℕ) (e : ℤ) (n : ℕ) (f : ℤ) (c : ℕ) (hm : OfDigits c m) (hn : OfDigits c n) where
+  abbrev found : Ordering
+  found = ordering_then (int_cmp e f) (nat_cmp m n)
+
+  digits_lt : is_lt (nat_cmp m n) ≡ ltb m n
+  digits_lt = grind (arith, nat_tests)
+
+  digits_gt : is_gt (nat_cmp m n) ≡ ltb n m
+  digits_gt = grind (arith, nat_tests)
+
+  pub found_less : is_lt found ≡ smaller m e n f
+  found_less =
+      ⊎_elim (λ (h : lt_z e f ≡ false).
+      ⊎_elim (λ (k : lt_z f e ≡ false). rw (h, k) (digits_lt ∙ sym (same_exponent m e n f h k)))
+      (λ (k : lt_z f e ≡ true). rw (h, k) (sym (higher_exponent m e n f c hm hn k))) (dichotomy (lt_z f e)))
+      (λ (h : lt_z e f ≡ true). rw h (sym (lower_exponent m e n f c hm hn h))) (dichotomy (lt_z e f))
+
+  pub found_greater : is_gt found ≡ smaller n f m e
+  found_greater =
+      ⊎_elim (λ (h : lt_z e f ≡ false).
+      ⊎_elim (λ (k : lt_z f e ≡ false). rw (h, k) (digits_gt ∙ sym (same_exponent n f m e k h)))
+      (λ (k : lt_z f e ≡ true). rw (h, k) (sym (lower_exponent n f m e c hn hm k))) (dichotomy (lt_z f e)))
+      (λ (h : lt_z e f ≡ true). rw h (sym (higher_exponent n f m e c hn hm h))) (dichotomy (lt_z e f))
+
 -- a number has its digits once
 pub same_number : (c : ℕ) (t u : Threshold) → OfDigits c t.mantissa → OfDigits c u.mantissa → levelled t u ≡ levelled u t → t ≡ u
 same_number c t u ht hu q =
@@ -133,10 +161,8 @@ module _ (v : Value) (t : Threshold) where
       let b = (and-eq-true_iff (within_stops t) _).0 a.1 in
       above_is_less a.0 b.0 ∙ less_not_both v (as_value t) b.1
 
--- What `is_below` and `is_above` start from: the answers n and w, and that 32 bits hold each number that they read.
-pub record Beside (v : Value) (t : Threshold) (n w : Bool) : Type 0 where
-  pub number : n ≡ is_number v
-  pub within : w ≡ within_stops t
+-- What `Value::order` starts from: 32 bits hold each number that it reads.
+pub record Beside (v : Value) (t : Threshold) : Type 0 where
   pub digits : SFits w32 v.mantissa
   pub power : SFits w32 v.exponent
   pub stop : SFits w32 t.exponent
@@ -144,19 +170,24 @@ pub record Beside (v : Value) (t : Threshold) (n w : Bool) : Type 0 where
 abbrev read : ℤ → ℤ
 read z = to_z w32 (of_z w32 z)
 
--- Their ways out, in the order of the code: a value of zero or less, one above zero, and no two numbers.
-module _ {v : Value} {t : Threshold} {n w : Bool} (beside : Beside v t n w) where
-  module _ (comparable : n && w ≡ true) where
-    is_number_lem : is_number v ≡ true
-    is_number_lem = sym beside.number ∙ ((and-eq-true_iff n w).0 comparable).0
+-- Its ways out, in the order of the code: no two numbers, a value of zero or less, and one above zero.
+module _ (v : Value) (t : Threshold) where
+  pub no_below : is_number v && within_stops t ≡ false → false ≡ is_below v t
+  unfolding is_below
+  no_below h = sym (and_not_both (is_number v) (within_stops t) _ h)
 
-    is_within : within_stops t ≡ true
-    is_within = sym beside.within ∙ ((and-eq-true_iff n w).0 comparable).1
+  pub no_above : is_number v && within_stops t ≡ false → false ≡ is_above v t
+  unfolding is_above
+  no_above h = sym (and_not_both (is_number v) (within_stops t) _ h)
+
+  module _ (beside : Beside v t) (comparable : is_number v && within_stops t ≡ true) where
+    both : (is_number v ≡ true) × (within_stops t ≡ true)
+    both = (and-eq-true_iff (is_number v) (within_stops t)).0 comparable
 
     nonpositive : le_z (read v.mantissa) (pos 0) ≡ true → is_below v t ≡ true
     nonpositive h =
-        below_is_less v t is_number_lem is_within
-        ∙ less_nonpositive v.mantissa v.exponent t (rw (to_z-of_z beside.digits) at h) (omega (arith, stops_digits t is_within))
+        below_is_less v t both.0 both.1
+        ∙ less_nonpositive v.mantissa v.exponent t (rw (to_z-of_z beside.digits) at h) (omega (arith, stops_digits t both.1))
 
     pub nonpositive_below : le_z (read v.mantissa) (pos 0) ≡ true → true ≡ is_below v t
     nonpositive_below h = sym (nonpositive h)
@@ -168,39 +199,29 @@ module _ {v : Value} {t : Threshold} {n w : Bool} (beside : Beside v t n w) wher
       positive : le_z v.mantissa (pos 0) ≡ false
       positive = rw (to_z-of_z beside.digits) at test
 
-      natural : v.mantissa ≡ pos (nat_abs v.mantissa)
-      natural = sym (pos-nat_abs v.mantissa (not_negative v.mantissa positive))
+      as_natural : v ≡ as_value (unsigned v)
+      as_natural =
+          ap (λ (z : ℤ). record { mantissa = z; exponent = v.exponent }) (sym (pos-nat_abs v.mantissa (not_negative v.mantissa positive)))
 
       value_digits : OfDigits five (nat_abs v.mantissa)
       value_digits =
-          let h = rw (ne_eqb (nat_abs v.mantissa) 0 (not_zero v.mantissa positive)) at is_number_lem in
+          let h = rw (ne_eqb (nat_abs v.mantissa) 0 (not_zero v.mantissa positive)) at both.0 in
           of_five (nat_abs v.mantissa) ((and-eq-true_iff _ _).0 h).0
 
-      pub positive_cast : T (non_neg (read v.mantissa)) × Fits w32 (nat_abs (read v.mantissa))
-      positive_cast = rw (to_z-of_z beside.digits) (not_negative v.mantissa positive, Fits-nat_abs tt beside.digits)
+      module _ {r : Ordering} (e : r ≡ ordering_then (int_cmp (read v.exponent) (read t.exponent)) (nat_cmp (nat_abs (read v.mantissa)) t.mantissa)) where
+        compared : r ≡ ordering_then (int_cmp v.exponent t.exponent) (nat_cmp (nat_abs v.mantissa) t.mantissa)
+        compared = rw (to_z-of_z beside.digits, to_z-of_z beside.power, to_z-of_z beside.stop) at e
 
-      pub positive_digits : OfDigits five (nat_abs (read v.mantissa)) × OfDigits five t.mantissa
-      positive_digits = rw (to_z-of_z beside.digits) (value_digits, stops_digits t is_within)
+        pub positive_below : is_lt r ≡ is_below v t
+        unfolding less
+        positive_below =
+            ap is_lt compared ∙ found_less (nat_abs v.mantissa) v.exponent t.mantissa t.exponent five value_digits (stops_digits t both.1)
+            ∙ sym (ap (λ w. less w (as_value t)) as_natural) ∙ sym (below_is_less v t both.0 both.1)
 
-      as_natural : v ≡ as_value (unsigned v)
-      as_natural = ap (λ (z : ℤ). record { mantissa = z; exponent = v.exponent }) natural
+        pub positive_above : is_gt r ≡ is_above v t
+        unfolding less
+        positive_above =
+            ap is_gt compared ∙ found_greater (nat_abs v.mantissa) v.exponent t.mantissa t.exponent five value_digits (stops_digits t both.1)
+            ∙ sym (ap (less (as_value t)) as_natural) ∙ sym (above_is_less v t both.0 both.1)
 
-      pub positive_below : {r : Bool} → r ≡ smaller (nat_abs (read v.mantissa)) (read v.exponent) t.mantissa (read t.exponent) → r ≡ is_below v t
-      unfolding less
-      positive_below h =
-          rw (to_z-of_z beside.digits, to_z-of_z beside.power, to_z-of_z beside.stop) at h
-          ∙ sym (ap (λ w. less w (as_value t)) as_natural) ∙ sym (below_is_less v t is_number_lem is_within)
-
-      pub positive_above : {r : Bool} → r ≡ smaller t.mantissa (read t.exponent) (nat_abs (read v.mantissa)) (read v.exponent) → r ≡ is_above v t
-      unfolding less
-      positive_above h =
-          rw (to_z-of_z beside.digits, to_z-of_z beside.power, to_z-of_z beside.stop) at h
-          ∙ sym (ap (less (as_value t)) as_natural) ∙ sym (above_is_less v t is_number_lem is_within)
-
-  pub no_below : n && w ≡ false → false ≡ is_below v t
-  unfolding is_below
-  no_below h = sym (and_not_both (is_number v) (within_stops t) _ (rw (beside.number, beside.within) at h))
-
-  pub no_above : n && w ≡ false → false ≡ is_above v t
-  unfolding is_above
-  no_above h = sym (and_not_both (is_number v) (within_stops t) _ (rw (beside.number, beside.within) at h))
+pub ruleset ways_out = (no_below, no_above, nonpositive_below, nonpositive_above, positive_below, positive_above)

@@ -8,8 +8,8 @@ use native.Mathlib.Omega.{arith}
 use borrow.Author.Tests.{ltb-true, leb-true, leb-false, le-leb, le-ltb}
 use lib.Dec.{T, leb, ltb}
 use lib.IntN.{ℤ, pos, negsuc, neg_ℤ, nat_abs, sub_ℕ, ◌+ℤ◌, ◌-ℤ◌, +ℤ_idl}
-use lib.Signed.{mag, lt_z, non_neg, nat_abs-le}
-use mir.Syntax.{w32, w64}
+use lib.Signed.{mag, lt_z}
+use mir.Syntax.{w32}
 use mir.Val.{SFits}
 use Rattle.ground.proofs.Cases.{below}
 use Rattle.numbers.specs.Numbers.{between}
@@ -29,19 +29,6 @@ pub abs_neg : (z : ℤ) → nat_abs (neg_ℤ z) ≡ nat_abs z
 abs_neg (pos zero) = refl
 abs_neg (pos (suc n)) = refl
 abs_neg (negsuc n) = refl
-
--- the negation of a number of 32 bits fits 64
-pub neg_fits : (z : ℤ) → SFits w32 z → SFits w64 (neg_ℤ z)
-neg_fits z f = record { sfits = omega (arith, mag_le (neg_ℤ z), abs_neg z, nat_abs-le z f.sfits) }
-
-pub neg_nonneg : (z : ℤ) → lt_z z (pos 0) ≡ true → T (non_neg (neg_ℤ z))
-neg_nonneg (pos zero) e = tt
-neg_nonneg (pos (suc n)) e = absurd (let h : suc n < 0 = ltb-true (suc n) 0 e in omega arith)
-neg_nonneg (negsuc n) e = tt
-
-pub nonneg : (z : ℤ) → lt_z z (pos 0) ≡ false → T (non_neg z)
-nonneg (pos n) e = tt
-nonneg (negsuc n) e = subst T e tt
 
 abs_sub : (a b : ℕ) → nat_abs (sub_ℕ a b) ≤ a + b
 abs_sub a b = go (ltb a b) refl

@@ -1,10 +1,8 @@
 -- "rounded to five significant digits, half upwards" (01, "Settings"; "Readings, switching, streaming"), over the number p of digits.
-use Rattle.std.specs.Prelude.{ℕ, zero, suc, ◌+◌, ◌-◌, ◌*◌, ◌/◌, ◌^◌, ◌≤◌, ◌<◌, Bool, cond, ◌&&◌, ltb, eqb, ℤ, pos, negsuc, nat_abs, ◌+ℤ◌, ◌-ℤ◌}
+use Rattle.std.specs.Prelude.{ℕ, zero, suc, ◌+◌, ◌-◌, ◌*◌, ◌/◌, ◌^◌, ◌≤◌, ◌<◌, Bool, cond, ◌&&◌, ltb, eqb, ℤ, pos, negsuc, nat_abs, ◌+ℤ◌, ◌-ℤ◌, Option, Some, None}
 use Rattle.ground.specs.Ranges.{in_range}
 use Rattle.numbers.specs.Numbers.{five, least, OfDigits, is_five, within_stops, less, as_value, signed, tens, tenths}
 use Rattle.numbers.specs.declared.threshold.Threshold.{Threshold}
-use Rattle.numbers.specs.declared.threshold.Fitted.{Fitted}
-use Rattle.numbers.specs.declared.threshold.Fitted.TheVariants.{Fits, Outside}
 use Rattle.numbers.specs.declared.value.Value.{Value}
 use Rattle.numbers.specs.declared.value.Ratio.{Ratio}
 
@@ -42,12 +40,12 @@ rounded p n d x =
     (record { mantissa = digits p n d; exponent = power p n d x })
 
 -- "zero, or a result outside 1.0000E-20 to 9.9999E+20, is 0010"
-abbrev pub held_to_stops : Threshold → Fitted
-held_to_stops t = cond (within_stops t) (Fits t) Outside
+abbrev pub held_to_stops : Threshold → Option Threshold
+held_to_stops t = cond (within_stops t) (Some t) None
 
 -- the threshold that n times ten to the x is
-unfoldable pub fitted_to : ℕ → ℤ → Fitted
-fitted_to n x = cond (eqb n 0) Outside (held_to_stops (rounded five n 1 x))
+unfoldable pub fitted_to : ℕ → ℤ → Option Threshold
+fitted_to n x = cond (eqb n 0) None (held_to_stops (rounded five n 1 x))
 
 -- a ratio that is carried exactly: both parts from 1 to 10^12
 abbrev pub is_usable : Ratio → Bool

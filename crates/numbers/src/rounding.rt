@@ -5,27 +5,20 @@ ghost use Rattle.numbers.specs.Rounding.{climb, nearest, rounded};
 
 use crate::threshold::Threshold;
 
-#[derive(Clone, Copy)]
-struct Climbed {
-    pub size: u64,
-    pub tens: u32,
-}
-
-// n times as many tens as bring it up to `to`.
-fn climb(n: u64, to: u64) -> Climbed
+// n times as many tens as bring it up to `to`, and how many.
+#[tactic(auto, using(crate::proofs::Climb::one_turn))]
+fn climb(n: u64, to: u64) -> (u64, u32)
     requires { to ≤ 1000000000000000000 }
-    ensures { result ≡ record { size = n * 10 ^ climb n to; tens = climb n to } }
+    ensures { result ≡ (n * 10 ^ climb n to, climb n to) }
 {
     let mut size = n;
-    let mut tens: u32 = 0;
-    while tens < 18 {
+    for tens in 0..18 {
         if to <= size {
-            return Climbed { size, tens };
+            return (size, tens);
         }
-        size = size * 10;
-        tens += 1;
+        size *= 10;
     }
-    Climbed { size, tens }
+    (size, 18)
 }
 
 // n / d to the nearest whole number, half upwards.
@@ -35,10 +28,7 @@ fn nearest(n: u64, d: u64) -> u32
 {
     let q = n / d;
     let r = n % d;
-    if d - r <= r {
-        return (q + 1) as u32;
-    }
-    q as u32
+    if d - r <= r { (q + 1) as u32 } else { q as u32 }
 }
 
 // The power of ten of five digits, for a number that was moved up and down to have them.
@@ -46,7 +36,7 @@ fn power(tens: i32, up: u32, down: u32) -> i32
     requires { (nat_abs tens ≤ 1000) × (up + down ≤ 16) }
     ensures { result ≡ tens +ℤ pos (4 + down) -ℤ pos up }
 {
-    tens + ((4 + down) as i32) - (up as i32)
+    tens + (4 + down) as i32 - up as i32
 }
 
 // over / under times ten to the tens, to five significant digits.
@@ -54,18 +44,14 @@ pub(crate) fn rounded(over: u64, under: u64, tens: i32) -> Threshold
     requires { (1 ≤ over) × (1 ≤ under) × (under ≤ 1000000000000) × (nat_abs tens ≤ 1000) }
     ensures { result ≡ rounded five over under tens }
 {
-    let up = climb(over, under * 10000);
-    let down = climb(under, over / 100000 + 1);
-    let m = nearest(up.size, down.size);
-    let e = power(tens, up.tens, down.tens);
-    if m == 100000 {
-        return Threshold {
+    let (n, up) = climb(over, under * 10000);
+    let (d, down) = climb(under, over / 100000 + 1);
+    let exponent = power(tens, up, down);
+    match nearest(n, d) {
+        100000 => Threshold {
             mantissa: 10000,
-            exponent: e + 1,
-        };
-    }
-    Threshold {
-        mantissa: m,
-        exponent: e,
+            exponent: exponent + 1,
+        },
+        mantissa => Threshold { mantissa, exponent },
     }
 }

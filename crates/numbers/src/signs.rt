@@ -5,8 +5,9 @@ ghost use Rattle.numbers.specs.Numbers.{signed};
 pub fn magnitude(z: i32) -> u32
     ensures { result ≡ nat_abs z }
 {
+    // by negation and not `unsigned_abs`: the form that 01 names
     if z < 0 {
-        (-(z as i64)) as u32
+        -i64::from(z) as u32
     } else {
         z as u32
     }
@@ -17,5 +18,7 @@ pub(crate) fn with_sign(z: i32, m: u32) -> i32
     requires { m ≤ 100000 }
     ensures { result ≡ signed z m }
 {
-    if z < 0 { -(m as i32) } else { m as i32 }
+    // not `signum`, which is 0 at zero, where `signed` promises m
+    let m = m as i32;
+    if z < 0 { -m } else { m }
 }

@@ -7,17 +7,10 @@ use crate::rounding::rounded;
 use crate::value::{Ratio, Value};
 
 // Its five digits without the point, and its power of ten.
-#[derive(Clone, Copy)]
+#[derive(Clone, Copy, PartialEq, Eq, Debug)]
 pub struct Threshold {
     pub mantissa: u32,
     pub exponent: i32,
-}
-
-// A number as a threshold, or none that holds it.
-#[derive(Clone, Copy)]
-pub enum Fitted {
-    Fits(Threshold),
-    Outside,
 }
 
 impl Threshold {
@@ -29,66 +22,64 @@ impl Threshold {
 
     pub const MOST_EXPONENT: i32 = 20;
 
+    // The end stops.
+    const LEAST: Threshold = Threshold {
+        mantissa: Threshold::LEAST_DIGITS,
+        exponent: Threshold::LEAST_EXPONENT,
+    };
+
+    const MOST: Threshold = Threshold {
+        mantissa: Threshold::MOST_DIGITS,
+        exponent: Threshold::MOST_EXPONENT,
+    };
+
     // Whether it lies within the end stops.
     pub fn is_within(self) -> bool
         ensures { result ≡ within_stops self }
     {
-        let m = self.mantissa;
-        let e = self.exponent;
-        let digits = (Threshold::LEAST_DIGITS <= m) & (m <= Threshold::MOST_DIGITS);
-        let stops = (Threshold::LEAST_EXPONENT <= e) & (e <= Threshold::MOST_EXPONENT);
-        digits & stops
+        (Threshold::LEAST_DIGITS..=Threshold::MOST_DIGITS).contains(&self.mantissa)
+            && (Threshold::LEAST_EXPONENT..=Threshold::MOST_EXPONENT).contains(&self.exponent)
     }
 
-    // n times ten to the x, rounded to five digits, half upwards.
-    pub fn fitted(n: u64, x: i32) -> Fitted
+    // n times ten to the x, rounded to five digits, half upwards; none where no threshold holds it.
+    #[tactic(auto, using(crate::proofs::Stops::fitted_cases))]
+    pub fn fitted(n: u64, x: i32) -> Option<Threshold>
         ensures { result ≡ fitted_to n x }
     {
-        if n == 0 {
-            return Fitted::Outside;
-        }
         // a power beyond these is far outside whatever n is, and its sums need no more bits
-        let near = (-1000 <= x) & (x <= 1000);
-        if near {
-            let t = rounded(n, 1, x);
-            if t.is_within() {
-                return Fitted::Fits(t);
-            }
+        if n == 0 || !(-1000..=1000).contains(&x) {
+            return None;
         }
-        Fitted::Outside
+        Some(rounded(n, 1, x)).filter(|t| t.is_within())
     }
+
     // Beyond an end stop, that stop.
+    #[tactic(auto, using(crate::proofs::Holding::held_cases))]
     fn held(self) -> Threshold
         requires { OfDigits five self.mantissa }
         ensures { result ≡ held_within self }
     {
-        let e = self.exponent;
-        if e < Threshold::LEAST_EXPONENT {
-            return Threshold {
-                mantissa: Threshold::LEAST_DIGITS,
-                exponent: Threshold::LEAST_EXPONENT,
-            };
+        if self.exponent < Threshold::LEAST_EXPONENT {
+            Threshold::LEAST
+        } else if Threshold::MOST_EXPONENT < self.exponent {
+            Threshold::MOST
+        } else {
+            self
         }
-        if Threshold::MOST_EXPONENT < e {
-            return Threshold {
-                mantissa: Threshold::MOST_DIGITS,
-                exponent: Threshold::MOST_EXPONENT,
-            };
-        }
-        self
     }
 
     // The threshold times the ratio, rounded once as a value is, and held within the end stops.
     pub(crate) fn multiplied(self, ratio: Ratio) -> Threshold
         ensures { result ≡ multiplied_by self ratio }
     {
-        if self.is_within() & ratio.is_usable() {
-            let v = Value {
+        if self.is_within() && ratio.is_usable() {
+            let value = Value {
                 mantissa: self.mantissa as i32,
                 exponent: self.exponent,
             };
-            return v.product(ratio).held();
+            value.product(ratio).held()
+        } else {
+            self
         }
-        self
     }
 }

@@ -5,7 +5,7 @@ ghost use Rattle.numbers.specs.Units.{from_hpa, factor_between, re_expressed};
 use crate::threshold::Threshold;
 use crate::value::Ratio;
 
-// The units that are not hPa by another name.
+// The units that are not hPa by another name; numbers, since `from_hpa` promises what one that is no unit gives.
 const TORR: u32 = 1;
 
 const PASCAL: u32 = 2;
@@ -16,25 +16,13 @@ const MICRON: u32 = 3;
 pub fn from_hpa(unit: u32) -> Ratio
     ensures { result ≡ from_hpa unit }
 {
-    if unit == TORR {
-        return Ratio {
-            over: 3040,
-            under: 4053,
-        };
-    }
-    if unit == PASCAL {
-        return Ratio {
-            over: 100,
-            under: 1,
-        };
-    }
-    if unit == MICRON {
-        return Ratio {
-            over: 3040000,
-            under: 4053,
-        };
-    }
-    Ratio { over: 1, under: 1 }
+    let (over, under) = match unit {
+        TORR => (3040, 4053),
+        PASCAL => (100, 1),
+        MICRON => (3040000, 4053),
+        _ => (1, 1),
+    };
+    Ratio { over, under }
 }
 
 // The factor from one unit to another.

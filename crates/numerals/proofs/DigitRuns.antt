@@ -1,58 +1,40 @@
--- The digits that a list begins with, by places of the list.
+-- The digits that a list begins with, what follows them, and the number that they make.
+use Rattle.std.proofs.lemmas.Bool.Decides.{nat_tests}
+use Rattle.std.specs.List.{position_or_len}
+use Rattle.std.specs.Option.{unwrap_or}
+use Rattle.std.specs.Prelude.{Option, Some, None}
 use Prim.Native.Nat.{ℕ, suc, ◌+◌, ◌-◌, ◌*◌, ◌^◌, ◌≤◌, ◌<◌}
-use mathlib.Core.Path.{◌≡◌, refl, sym, ap, ◌∙◌, subst}
+use mathlib.Core.Path.{◌≡◌, refl, ap}
 use mathlib.Core.List.{List, [], ◌∷◌, ◌++◌}
-use mathlib.Core.Bool.{Bool, true, false, cond, ◌&&◌}
-use mathlib.Core.Logic.{⊎_elim}
+use mathlib.Core.Bool.{Bool, true, false, cond, not, ◌&&◌}
 use native.Mathlib.Omega.{arith}
 use native.Mathlib.Nat.{pow-suc, pow-le-pow_right, lt_of_lt_of_le, mul-le-mul_left, mul-le-mul_right}
 use native.Mathlib.Numerals.{add-one}
-use borrow.Author.Tests.{le-leb, lt-leb, leb-true}
+use borrow.Author.Tests.{le-leb, leb-true, ltb-false}
 use lib.ListN.{length, get_or, drop, take, drop_of_length-le, length-drop}
-use lib.Seq.{drop-cons, drop-drop, take_all, length-take-le}
-use lib.Dec.{T, leb, eqb}
+use lib.Seq.{drop-cons, take_all}
+use lib.Dec.{leb, ltb, eqb}
 use lib.Pow.{pow-add}
-use Rattle.ground.proofs.Cases.{below, eqb_same}
-use Rattle.numerals.specs.Runs.{part, is_digit, lead, rest, head_is, value}
+use Rattle.numerals.specs.Runs.{is_digit, lead, rest, head_is, value}
 
-module _ (i : ℕ) (s : List ℕ) where
-  pub head_at : (c : ℕ) → i < length s → head_is c (drop i s) ≡ eqb (get_or s i 0) c
-  unfolding head_is
-  head_at c h = rw (drop-cons s i 0 h)
+-- what stands behind the first byte, and whether that byte is c
+pub behind_first : (s : List ℕ) → take (length s - 1) (drop 1 s) ≡ drop 1 s
+behind_first s = take_all (length s - 1) (drop 1 s) (omega (arith, length-drop 1 s))
 
-  pub head_out : (c : ℕ) → length s ≤ i → head_is c (drop i s) ≡ false
-  unfolding head_is
-  head_out c h = rw (drop_of_length-le s h)
+pub head_first : (c : ℕ) (s : List ℕ) → head_is c s ≡ leb 1 (length s) && eqb (get_or s 0 0) c
+unfolding head_is
+head_first c [] = refl
+head_first c (b ∷ s) = rw (le-leb 1 (length (b ∷ s)) (omega arith))
 
-  pub lead_more : i < length s → 48 ≤ get_or s i 0 → get_or s i 0 ≤ 57 → length (lead (drop i s)) ≡ length (lead (drop (i + 1) s)) + 1
-  unfolding lead
-  lead_more h l u = rw (add-one i, drop-cons s i 0 h) (simp (le-leb _ _ l, le-leb _ _ u) (omega arith))
-
-  pub lead_low : i < length s → get_or s i 0 < 48 → length (lead (drop i s)) ≡ 0
-  unfolding lead
-  lead_low h l = rw (drop-cons s i 0 h) (simp (lt-leb _ _ l))
-
-  pub lead_high : i < length s → 57 < get_or s i 0 → length (lead (drop i s)) ≡ 0
-  unfolding lead
-  lead_high h l = rw (drop-cons s i 0 h) (simp (le-leb 48 (get_or s i 0) (omega arith), lt-leb _ _ l))
-
-  pub lead_end : length s ≤ i → length (lead (drop i s)) ≡ 0
-  unfolding lead
-  lead_end h = rw (drop_of_length-le s h)
-
-pub drop_one : (i : ℕ) (s : List ℕ) → drop 1 (drop i s) ≡ drop (i + 1) s
-drop_one i s = drop-drop 1 i s
-
--- a byte that is there has a place
-pub head_in : (c i : ℕ) (s : List ℕ) → head_is c (drop i s) ≡ true → i < length s
-head_in c i s e = ⊎_elim (λ (h : i < length s). h) (λ (g : length s ≤ i). absurd (subst T (sym e ∙ head_out i s c g) tt)) (below i (length s))
+-- what a test of the first byte comes to
+pub ruleset heads = (head_first, behind_first, nat_tests)
 
 lead_take_by : (t : Bool) (b : ℕ) (s : List ℕ) → lead s ≡ take (length (lead s)) s
     → cond t (b ∷ lead s) [] ≡ take (length (cond t (b ∷ lead s) [])) (b ∷ s)
 lead_take_by true b s h = ap (λ (l : List ℕ). b ∷ l) h
 lead_take_by false b s h = refl
 
-lead_take : (s : List ℕ) → lead s ≡ take (length (lead s)) s
+pub lead_take : (s : List ℕ) → lead s ≡ take (length (lead s)) s
 unfolding lead
 lead_take [] = refl
 lead_take (b ∷ s) = lead_take_by (is_digit b) b s (lead_take s)
@@ -62,7 +44,7 @@ rest_drop_by : (t : Bool) (b : ℕ) (s : List ℕ) → rest s ≡ drop (length (
 rest_drop_by true b s h = h
 rest_drop_by false b s h = refl
 
-rest_drop : (s : List ℕ) → rest s ≡ drop (length (lead s)) s
+pub rest_drop : (s : List ℕ) → rest s ≡ drop (length (lead s)) s
 unfolding lead rest
 rest_drop [] = refl
 rest_drop (b ∷ s) = rest_drop_by (is_digit b) b s (rest_drop s)
@@ -71,34 +53,49 @@ lead_le_by : (t : Bool) (b n : ℕ) (l : List ℕ) → length l ≤ n → length
 lead_le_by true b n l h = omega arith
 lead_le_by false b n l h = omega arith
 
-lead_le : (s : List ℕ) → length (lead s) ≤ length s
+pub lead_le : (s : List ℕ) → length (lead s) ≤ length s
 unfolding lead
 lead_le [] = omega arith
 lead_le (b ∷ s) = lead_le_by (is_digit b) b (length s) (lead s) (lead_le s)
 
--- the run of digits from a on ends at p
-module _ (s : List ℕ) (a : ℕ) (h : a ≤ length s) where
-  pub run_in : a + length (lead (drop a s)) ≤ length s
-  run_in = omega (arith, lead_le (drop a s), length-drop a s)
+-- the run ends where the first byte that is no digit stands
+position_by : (t : Bool) (b n : ℕ) (l : List ℕ) → n ≡ length l → cond (not (not t)) (1 + n) 0 ≡ length (cond t (b ∷ l) [])
+position_by true b n l h = omega arith
+position_by false b n l h = refl
 
-  pub run_lead : (p : ℕ) → p ≡ a + length (lead (drop a s)) → lead (drop a s) ≡ part a p s
-  run_lead p e = lead_take (drop a s) ∙ ap (λ (n : ℕ). take n (drop a s)) (let q : length (lead (drop a s)) ≡ p - a = omega arith in q)
+lead_position : (s : List ℕ) → position_or_len (λ b. not (is_digit b)) s ≡ length (lead s)
+unfolding lead
+lead_position [] = refl
+lead_position (b ∷ s) = position_by (is_digit b) b (position_or_len (λ x. not (is_digit x)) s) (lead s) (lead_position s)
 
-  pub run_rest : (p : ℕ) → p ≡ a + length (lead (drop a s)) → rest (drop a s) ≡ drop p s
-  run_rest p e = rest_drop (drop a s) ∙ drop-drop (length (lead (drop a s))) a s ∙ ap (λ (n : ℕ). drop n s) (sym e)
+-- as `position` says where that is: a place below the end, or none
+pub lead_found : (r : Option ℕ) (s : List ℕ) → let n = position_or_len (λ b. not (is_digit b)) s in
+    r ≡ cond (ltb n (length s)) (Some n) None → unwrap_or r (length s) ≡ length (lead s)
+lead_found r s q = rw lead_position at (go (ltb n (length s)) refl q)
+  where
+    n : ℕ
+    n = position_or_len (λ b. not (is_digit b)) s
 
-pub part_length : (a e : ℕ) (s : List ℕ) → a ≤ e → e ≤ length s → length (part a e s) ≡ e - a
-part_length a e s h l = length-take-le (e - a) (drop a s) (omega (arith, length-drop a s))
-
--- a part up to or past the end is what is left
-pub part_rest : (a e : ℕ) (s : List ℕ) → length s ≤ e → part a e s ≡ drop a s
-part_rest a e s h = take_all (e - a) (drop a s) (omega (arith, length-drop a s))
+    go : (t : Bool) → ltb n (length s) ≡ t → r ≡ cond t (Some n) None → unwrap_or r (length s) ≡ n
+    go true f q = rw q
+    go false f q = rw q (omega (arith, ltb-false n (length s) f, lead_position s, lead_le s))
 
 -- ---- the number that bytes make, one byte after the other
+
+pub value_none : (n : ℕ) → value n [] ≡ n
+unfolding value
+value_none n = refl
 
 pub value_more : (n : ℕ) (s : List ℕ) (b : ℕ) → value n (b ∷ s) ≡ value (n * 10 + (b - 48)) s
 unfolding value
 value_more n s b = refl
+
+-- the byte at a place, and those behind it
+pub value_at : (n i : ℕ) (s : List ℕ) → i < length s → value n (drop i s) ≡ value (n * 10 + (get_or s i 0 - 48)) (drop (i + 1) s)
+value_at n i s h = rw (drop-cons s i 0 h, add-one i) (value_more n (drop (suc i) s) (get_or s i 0))
+
+pub value_end : (n i : ℕ) (s : List ℕ) → length s ≤ i → value n (drop i s) ≡ n
+value_end n i s h = rw (drop_of_length-le s h) (value_none n)
 
 -- the bound of what k bytes make behind n: each counts at most 207, so n + 23 grows at most tenfold with each
 module _ (n k : ℕ) where
@@ -110,27 +107,19 @@ module _ (n k : ℕ) where
   pub bound_next : 1 ≤ k → (n + 23) * 10 ≤ (n + 23) * 10 ^ k
   bound_next h = mul-le-mul_left (n + 23) (pow-le-pow_right {n = 10} (omega arith) {i = 1} {j = k} h)
 
-  pub bound_below : (i : ℕ) → n + 23 ≤ 23 * 10 ^ i → i ≤ k → n + 23 ≤ 23 * 10 ^ k
-  bound_below i h l = omega (arith, pow-le-pow_right {n = 10} (omega arith) {i = i} {j = k} l)
+-- what a turn of the loop over the digits asks
+pub ruleset turns = (value_at, value_end, bound_more, bound_next)
 
--- what i bytes make leaves room for k more, up to twelve in all
+-- what i bytes make leaves room for k more, up to twelve in all; and nothing leaves room for twelve
 pub bound_room : (n i k : ℕ) → n + 23 ≤ 23 * 10 ^ i → i + k ≤ 12 → (n + 23) * 10 ^ k ≤ 23 * 10 ^ 12
 bound_room n i k h l =
     let all : 10 ^ i * 10 ^ k ≤ 10 ^ 12 = rw (← pow-add 10 i k) (pow-le-pow_right {n = 10} (omega arith) {i = i + k} {j = 12} l) in
     omega (arith, all, mul-le-mul_right (10 ^ k) h)
 
--- a part that is not empty begins with the byte at its start
-pub part_cons : (a e : ℕ) (s : List ℕ) → a < e → a < length s → part a e s ≡ get_or s a 0 ∷ part (a + 1) e s
-part_cons a e s h l =
-    let k : e - a ≡ suc (e - (a + 1)) = omega arith in
-    rw (k, drop-cons s a 0 l, add-one a)
+pub bound_first : (k : ℕ) → k ≤ 12 → 23 * 10 ^ k ≤ 23 * 10 ^ 12
+bound_first k h = mul-le-mul_left 23 (pow-le-pow_right {n = 10} (omega arith) {i = k} {j = 12} h)
 
-pub part_none : (a e : ℕ) (s : List ℕ) → e ≤ a → part a e s ≡ []
-part_none a e s h = let k : e - a ≡ 0 = omega arith in rw k
-
-pub value_none : (n : ℕ) → value n [] ≡ n
-unfolding value
-value_none n = refl
+pub ruleset room = (bound_first, bound_room)
 
 -- two runs: the second is read behind the number of the first
 pub value_join : (n : ℕ) (s t : List ℕ) → value n (s ++ t) ≡ value (value n s) t
@@ -178,13 +167,3 @@ pub lead_rest_length : (s : List ℕ) → length (lead s) + length (rest s) ≡ 
 unfolding lead rest
 lead_rest_length [] = refl
 lead_rest_length (b ∷ s) = length_by (is_digit b) b s (lead_rest_length s)
-
--- how much is left behind the run that ends at p
-rest_length : (s : List ℕ) (a p : ℕ) → a ≤ length s → p ≡ a + length (lead (drop a s)) → length (rest (drop a s)) ≡ length s - p
-rest_length s a p h e = ap length (run_rest s a h p e) ∙ length-drop p s
-
--- nothing is left behind the run that ends at p exactly where p is the end
-pub run_all : (s : List ℕ) (a p : ℕ) → a ≤ length s → p ≡ a + length (lead (drop a s)) → eqb p (length s) ≡ eqb (length (rest (drop a s))) 0
-run_all s a p h e =
-    let l = rest_length s a p h e in
-    eqb_same p (length s) (length (rest (drop a s))) 0 (λ q. omega (arith, l)) (λ q. omega (arith, l, run_in s a h))

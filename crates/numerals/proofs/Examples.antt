@@ -1,4 +1,5 @@
 -- What 01 leaves to be decided about the form of a number (docs/DECISIONS.md, 1 to 5), as one statement over a list.
+use Rattle.std.specs.Prelude.{Option, Some, None, Result, Ok, Err}
 use Prim.Native.Nat.{ℕ}
 use Prim.Native.String.{String}
 use mathlib.Core.Path.{◌≡◌, refl}
@@ -10,20 +11,19 @@ use Rattle.numerals.specs.Writing.{scientific, threshold_text}
 use Rattle.numerals.specs.Runs.{lead, rest, head_is, value}
 use Rattle.numerals.specs.Whole.{numeral_fault, number_of, behind_point, factor_of}
 use Rattle.numerals.specs.Exponential.{threshold_fault, after_plus, after_sign, power_of, composed, fraction, after_fraction, threshold_of}
-use Rattle.numerals.specs.declared.exponential.ThresholdNumeral.{ThresholdNumeral}
-use Rattle.numerals.specs.declared.exponential.ThresholdNumeral.TheVariants.{Within, NoThreshold, OutOfRange}
-use Rattle.numerals.specs.declared.whole.Numeral.{Numeral}
-use Rattle.numerals.specs.declared.whole.Numeral.TheVariants.{Number, NoNumber}
+use Rattle.numerals.specs.declared.exponential.ThresholdFault.{ThresholdFault}
+use Rattle.numerals.specs.declared.exponential.ThresholdFault.TheVariants.{Malformed, OutOfRange}
+use Rattle.numbers.specs.declared.threshold.Threshold.{Threshold}
 
 -- what is answered to what is sent: the number as it is written, or the error word
-abbrev pub threshold_says : ThresholdNumeral → List ℕ
-threshold_says (Within t) = threshold_text t
-threshold_says NoThreshold = dig 4 (threshold_fault NoThreshold)
-threshold_says OutOfRange = dig 4 (threshold_fault OutOfRange)
+abbrev pub threshold_says : Result Threshold ThresholdFault → List ℕ
+threshold_says (Ok t) = threshold_text t
+threshold_says (Err Malformed) = dig 4 (threshold_fault (Err Malformed))
+threshold_says (Err OutOfRange) = dig 4 (threshold_fault (Err OutOfRange))
 
-abbrev pub factor_says : Numeral → List ℕ
-factor_says (Number t) = factor_text t
-factor_says NoNumber = dig 4 (numeral_fault NoNumber)
+abbrev pub factor_says : Option ℕ → List ℕ
+factor_says (Some t) = factor_text t
+factor_says None = dig 4 (numeral_fault None)
 
 pub data Kind : Type 0 where
   threshold : Kind

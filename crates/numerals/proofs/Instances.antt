@@ -1,4 +1,5 @@
 -- What the definitions give where docs/promises/ names a wrong answer.
+use Rattle.std.specs.Prelude.{Some, None}
 use mathlib.Core.Path.{◌≡◌, refl}
 use mathlib.Core.List.{List, [], ◌∷◌, map}
 use lib.IntN.{pos, negsuc}
@@ -8,10 +9,9 @@ use Rattle.numbers.specs.declared.value.Value.{Value}
 use Rattle.numerals.specs.Runs.{lead, rest, head_is, value}
 use Rattle.numerals.specs.Whole.{number_of, behind_point, factor_of}
 use Rattle.numerals.specs.Writing.{scientific, threshold_text, value_text}
-use Rattle.numerals.specs.declared.whole.Numeral.TheVariants.{Number, NoNumber}
 
 -- tenths, hundredths and thousandths; and a comma, which is no point
-pub factor_places : map factor_of (ascii "0.5" ∷ ascii "0.05" ∷ ascii "0.005" ∷ ascii "0,5" ∷ []) ≡ Number 500 ∷ Number 50 ∷ Number 5 ∷ NoNumber ∷ []
+pub factor_places : map factor_of (ascii "0.5" ∷ ascii "0.05" ∷ ascii "0.005" ∷ ascii "0,5" ∷ []) ≡ Some 500 ∷ Some 50 ∷ Some 5 ∷ None ∷ []
 unfolding lead rest head_is value number_of behind_point factor_of
 factor_places = refl
 

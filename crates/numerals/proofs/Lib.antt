@@ -1,7 +1,5 @@
 pub mod DigitRuns
 pub mod Wholes
-pub mod Powers
-pub mod Composing
 pub mod Stops
 pub mod RoundTrip
 pub mod Examples

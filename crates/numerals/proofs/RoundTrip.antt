@@ -1,4 +1,5 @@
 -- Reading what was written gives the same number: the digit facts once over their count, then whole numbers, factors, thresholds.
+use Rattle.std.specs.Prelude.{Some, Ok}
 use Prim.Native.Nat.{ℕ, zero, suc, ◌+◌, ◌*◌, ◌/◌, ◌%◌, ◌^◌, ◌≤◌, ◌<◌}
 use Prim.Native.Char.{code}
 use mathlib.Core.Path.{◌≡◌, refl, sym, ap, ap₂, ◌∙◌}
@@ -18,16 +19,12 @@ use Rattle.text.proofs.Decimals.{dig_length}
 use Rattle.numbers.specs.Numbers.{five, OfDigits, within_stops}
 use Rattle.numbers.specs.Rounding.{fitted_to}
 use Rattle.numbers.specs.declared.threshold.Threshold.{Threshold}
-use Rattle.numbers.specs.declared.threshold.Fitted.TheVariants.{Fits}
 use Rattle.numbers.proofs.Exact.{round_same}
 use Rattle.numbers.proofs.Stops.{stops_digits, stops_near, fitted_within}
 use Rattle.numerals.specs.Writing.{sign_byte, scientific, threshold_text}
 use Rattle.numerals.specs.Runs.{is_digit, lead, rest, head_is, value}
 use Rattle.numerals.specs.Whole.{number_of, whole_of, behind_point, factor_of}
 use Rattle.numerals.specs.Exponential.{after_plus, after_sign, power_of, fitted_numeral, weighed, composed, fraction, after_fraction, threshold_of}
-use Rattle.numerals.specs.declared.exponential.ThresholdNumeral.TheVariants.{Within}
-use Rattle.numerals.specs.declared.exponential.Power.TheVariants.{Ten}
-use Rattle.numerals.specs.declared.whole.Numeral.TheVariants.{Number}
 use Rattle.numerals.proofs.DigitRuns.{value_none}
 use Rattle.numerals.proofs.Wholes.{number_is, factor_taken}
 
@@ -66,12 +63,12 @@ value_last : (k n : ℕ) → value 0 (dig k n) ≡ n % 10 ^ k
 value_last k n = (rw append-nil at (value_dig k 0 n [])) ∙ value_none (0 * 10 ^ k + n % 10 ^ k) ∙ omega arith
 
 -- k digits are read as the number that they are
-number_last : (most k n : ℕ) → 1 ≤ k → k ≤ most → number_of most (dig k n) ≡ Number (n % 10 ^ k)
+number_last : (most k n : ℕ) → 1 ≤ k → k ≤ most → number_of most (dig k n) ≡ Some (n % 10 ^ k)
 unfolding lead rest
 number_last most k n a b =
     let l : lead (dig k n) ≡ dig k n = rw append-nil at (lead_dig k n [] refl) in
     let r : rest (dig k n) ≡ [] = rw append-nil at (rest_dig k n [] refl) in
-    sym (number_is most (dig k n) (rw r) (rw (l, dig_length) a) (rw (l, dig_length) b)) ∙ ap Number (ap (value 0) l ∙ value_last k n)
+    sym (number_is most (dig k n) (rw r) (rw (l, dig_length) a) (rw (l, dig_length) b)) ∙ ap Some (ap (value 0) l ∙ value_last k n)
 
 -- a number's digits without leading zeros: as many as it has
 record Bare (k n : ℕ) : Type 0 where
@@ -136,29 +133,29 @@ written most n a b h =
 
 -- ---- whole numbers and factors
 
-pub whole_round : (n : ℕ) → n < 1000 → whole_of (whole_text n) ≡ Number n
+pub whole_round : (n : ℕ) → n < 1000 → whole_of (whole_text n) ≡ Some n
 whole_round n h =
     let w = written 3 n (omega arith) (omega arith) h in
-    rw w.is (number_last 3 w.k n w.some w.few ∙ ap Number (mod-eq_of_lt w.small))
+    rw w.is (number_last 3 w.k n w.some w.few ∙ ap Some (mod-eq_of_lt w.small))
 
 -- k digits before the point and three behind it
-factor_digits : (k q t : ℕ) → 1 ≤ k → k ≤ 2 → q < 10 ^ k → factor_of (dig k q ++ (code "." ∷ dig 3 t)) ≡ Number (q * 1000 + t % 1000)
+factor_digits : (k q t : ℕ) → 1 ≤ k → k ≤ 2 → q < 10 ^ k → factor_of (dig k q ++ (code "." ∷ dig 3 t)) ≡ Some (q * 1000 + t % 1000)
 unfolding lead rest head_is behind_point
 factor_digits k q t a b h =
     let s = dig k q ++ (code "." ∷ dig 3 t) in
     let l : lead s ≡ dig k q = lead_dig k q (code "." ∷ dig 3 t) refl in
     let r : rest s ≡ code "." ∷ dig 3 t = rest_dig k q (code "." ∷ dig 3 t) refl in
     sym (factor_taken s (rw (l, dig_length, le-leb 1 k a, le-leb k 2 b)))
-    ∙ rw (l, r, value_last k q, mod-eq_of_lt h, number_last 3 3 t (omega arith) (omega arith)) (ap Number (omega arith))
+    ∙ rw (l, r, value_last k q, mod-eq_of_lt h, number_last 3 3 t (omega arith) (omega arith)) (ap Some (omega arith))
 
-pub factor_round : (t : ℕ) → t < 100000 → factor_of (factor_text t) ≡ Number t
+pub factor_round : (t : ℕ) → t < 100000 → factor_of (factor_text t) ≡ Some t
 factor_round t h =
     let w = written 2 (t / 1000) (omega arith) (omega arith) (omega arith) in
-    rw w.is (factor_digits w.k (t / 1000) t w.some w.few w.small ∙ ap Number (omega arith))
+    rw w.is (factor_digits w.k (t / 1000) t w.some w.few w.small ∙ ap Some (omega arith))
 
 -- ---- thresholds
 
-power_round : (e : ℤ) → nat_abs e < 100 → power_of (code "E" ∷ sign_byte e ∷ dig 2 (nat_abs e)) ≡ Ten e
+power_round : (e : ℤ) → nat_abs e < 100 → power_of (code "E" ∷ sign_byte e ∷ dig 2 (nat_abs e)) ≡ Some e
 unfolding power_of after_sign head_is
 power_round (pos n) h = rw (number_last 2 2 n (omega arith) (omega arith), mod-eq_of_lt h)
 power_round (negsuc n) h = rw (number_last 2 2 (suc n) (omega arith) (omega arith), mod-eq_of_lt h)
@@ -186,14 +183,14 @@ five_value m h =
     (rw append-nil at (value_dig 1 0 (m / 10000) (dig 4 m ++ [])))
     ∙ (rw append-nil at (value_dig 4 (0 * 10 ^ 1 + m / 10000 % 10 ^ 1) m [])) ∙ value_none _ ∙ omega arith
 
-fits_round : (t : Threshold) → within_stops t ≡ true → fitted_to t.mantissa (t.exponent -ℤ pos 4) ≡ Fits t
+fits_round : (t : Threshold) → within_stops t ≡ true → fitted_to t.mantissa (t.exponent -ℤ pos 4) ≡ Some t
 fits_round t h =
     let m = stops_digits t h in
     let same = round_same five (omega arith) t m in
-    sym (fitted_within t.mantissa (t.exponent -ℤ pos 4) (λ z. omega (arith, m)) (ap within_stops same ∙ h)) ∙ ap Fits same
+    sym (fitted_within t.mantissa (t.exponent -ℤ pos 4) (λ z. omega (arith, m)) (ap within_stops same ∙ h)) ∙ ap Some same
 
 -- for every threshold within the end stops
-pub threshold_round : (t : Threshold) → within_stops t ≡ true → threshold_of (threshold_text t) ≡ Within t
+pub threshold_round : (t : Threshold) → within_stops t ≡ true → threshold_of (threshold_text t) ≡ Ok t
 unfolding scientific composed lead rest
 threshold_round t h =
     let m = t.mantissa in

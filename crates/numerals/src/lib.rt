@@ -5,3 +5,5 @@ pub mod exponential;
 mod runs;
 pub mod whole;
 pub mod writing;
+
+pub use runs::part;

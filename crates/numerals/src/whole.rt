@@ -1,80 +1,66 @@
 // Whole numbers and factors.
-ghost use Rattle.std.specs.Prelude.{◌≡◌, ◌≤◌, ◌<◌, ◌-◌, ◌*◌, ◌^◌, length, drop};
-ghost use Rattle.numerals.specs.Runs.{part};
+ghost use Rattle.std.specs.Prelude.{◌≡◌, ◌≤◌, ◌<◌, ◌-◌, ◌*◌, ◌^◌, length, IfSome};
 ghost use Rattle.numerals.specs.Whole.{number_of, whole_of, behind_point, factor_of};
 
-use crate::runs::{is_at, part, run, value};
+use crate::runs::{digits, value};
 
-// What a whole number or a factor reads as; a factor counts thousandths.
-#[derive(Clone, Copy)]
-pub enum Numeral {
-    Number(u32),
-    NoNumber,
-}
-
-// One to `most` digits from `at` on, and nothing behind them.
-pub(crate) fn number(s: &[u8], at: usize, most: usize) -> Numeral
-    requires { (at ≤ length s.now) × (most ≤ 3) }
-    ensures { result ≡ number_of most (drop at s.now) }
+// One to `most` digits, and nothing behind them.
+#[tactic(auto, unfolding(crate::specs::Whole::number_of))]
+pub(crate) fn number(s: &[u8], most: usize) -> Option<u32>
+    requires { most ≤ 3 }
+    ensures value { result ≡ number_of most s.now }
+    ensures bound { IfSome result (λ n. n < 10 ^ most) }
+    ensures few { IfSome result (λ n. (1 ≤ length s.now) × (length s.now ≤ most)) }
 {
-    let e = run(s, at);
-    let k = e - at;
-    let all = e == s.len();
-    let few = (1 <= k) & (k <= most);
-    if all & few {
-        return Numeral::Number(value(0, s, at, e) as u32);
+    let (run, rest) = digits(s);
+    if rest.is_empty() && (1..=most).contains(&run.len()) {
+        Some(value(0, run) as u32)
+    } else {
+        None
     }
-    Numeral::NoNumber
 }
 
-// The whole number in s from start up to end.
-pub fn read_whole(s: &[u8], start: usize, end: usize) -> Numeral
-    ensures { result ≡ whole_of (part start end s.now) }
+// The whole number that s is.
+pub fn read_whole(s: &[u8]) -> Option<u32>
+    ensures { result ≡ whole_of s.now }
 {
-    number(part(s, start, end), 0, 3)
+    number(s, 3)
 }
 
 // m, of k digits behind the point, in thousandths.
 fn thousandths(m: u32, k: usize) -> u32
     requires { (m < 1000) × (1 ≤ k) × (k ≤ 3) }
-    ensures { (result ≡ m * 10 ^ (3 - k)) × (result < 100000) }
+    ensures value { result ≡ m * 10 ^ (3 - k) }
+    ensures bound { result < 100000 }
 {
-    if k == 1 {
-        return m * 100;
-    }
-    if k == 2 {
-        return m * 10;
-    }
-    m
+    m * 10_u32.pow((3 - k) as u32)
 }
 
-// n, and what follows its digits from p on: nothing, or a point and one to three digits.
-fn behind(n: u32, s: &[u8], p: usize) -> Numeral
-    requires { (n ≤ 2300) × (p ≤ length s.now) }
-    ensures { result ≡ behind_point n (drop p s.now) }
+// n, and what follows its digits: nothing, or a point and one to three digits.
+#[tactic(auto, using(crate::proofs::DigitRuns::heads), unfolding(crate::specs::Whole::behind_point))]
+fn behind(n: u32, s: &[u8]) -> Option<u32>
+    requires { n ≤ 2300 }
+    ensures { result ≡ behind_point n s.now }
 {
-    if p == s.len() {
-        return Numeral::Number(n * 1000);
+    match s {
+        [] => Some(n * 1000),
+        [b'.', digits @ ..] => {
+            let m = number(digits, 3)?;
+            Some(n * 1000 + thousandths(m, digits.len()))
+        }
+        _ => None,
     }
-    if is_at(s, p, b'.') {
-        let t = number(s, p + 1, 3);
-        return match t {
-            Numeral::NoNumber => Numeral::NoNumber,
-            Numeral::Number(m) => Numeral::Number(n * 1000 + thousandths(m, s.len() - (p + 1))),
-        };
-    }
-    Numeral::NoNumber
 }
 
-// The factor in s from start up to end.
-pub fn read_factor(s: &[u8], start: usize, end: usize) -> Numeral
-    ensures { result ≡ factor_of (part start end s.now) }
+// The factor that s is, in thousandths.
+#[tactic(auto, unfolding(crate::specs::Whole::factor_of))]
+pub fn read_factor(s: &[u8]) -> Option<u32>
+    ensures { result ≡ factor_of s.now }
 {
-    let t = part(s, start, end);
-    let p = run(t, 0);
-    let few = (1 <= p) & (p <= 2);
-    if few {
-        return behind(value(0, t, 0, p) as u32, t, p);
+    let (whole, rest) = digits(s);
+    if (1..=2).contains(&whole.len()) {
+        behind(value(0, whole) as u32, rest)
+    } else {
+        None
     }
-    Numeral::NoNumber
 }

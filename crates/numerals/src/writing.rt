@@ -1,13 +1,13 @@
 // Numbers of five digits put into a text.
 ghost use Rattle.std.specs.Prelude.{◌≡◌};
-ghost use Rattle.text.specs.Page.{page, puts};
+ghost use Rattle.text.specs.Writing.{Wrote};
 ghost use Rattle.numerals.specs.Writing.{sign_byte, scientific, threshold_text, value_text};
 
 use numbers::signs::magnitude;
 use numbers::threshold::Threshold;
 use numbers::value::Value;
-use text::append;
 use text::digits::digit_at;
+use text::writer::Writer;
 
 fn sign_byte(z: i32) -> u8
     ensures { result ≡ sign_byte z }
@@ -16,6 +16,7 @@ fn sign_byte(z: i32) -> u8
 }
 
 // d.ddddE, sign, two digits.
+#[tactic(auto, unfolding(crate::specs::Writing::scientific))]
 fn scientific(m: u32, e: i32) -> [u8; 10]
     ensures { result ≡ scientific m e }
 {
@@ -34,12 +35,11 @@ fn scientific(m: u32, e: i32) -> [u8; 10]
     ]
 }
 
-// The threshold put into out from `at` on; the place after it.
-pub fn write_threshold(out: &mut [u8], at: usize, n: Threshold) -> usize
-    ensures { page out.new result ≡ puts (page out.old at) (threshold_text n) }
+// The threshold as it is sent.
+pub fn write_threshold(out: &mut Writer, n: Threshold)
+    ensures { Wrote out.old out.new (threshold_text n) }
 {
-    let b = scientific(n.mantissa, n.exponent);
-    append(out, at, &b)
+    out.append(&scientific(n.mantissa, n.exponent));
 }
 
 // A shown value as it is sent: its sign first.
@@ -48,19 +48,7 @@ pub type ValueBytes = [u8; 11];
 pub fn value_bytes(v: Value) -> ValueBytes
     ensures { result ≡ value_text v }
 {
-    let m = v.mantissa;
-    let b = scientific(magnitude(m), v.exponent);
-    [
-        sign_byte(m),
-        b[0],
-        b[1],
-        b[2],
-        b[3],
-        b[4],
-        b[5],
-        b[6],
-        b[7],
-        b[8],
-        b[9],
-    ]
+    let mut bytes = [sign_byte(v.mantissa); 11];
+    bytes[1..].copy_from_slice(&scientific(magnitude(v.mantissa), v.exponent));
+    bytes
 }

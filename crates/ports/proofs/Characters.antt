@@ -1,30 +1,29 @@
 -- What the host's run takes without asking for the kind of a byte: characters and spaces, gathered in one go, and an ENQ.
-use Prim.Native.Nat.{ℕ, ◌+◌, ◌≤◌, ◌<◌}
-use mathlib.Core.Path.{◌≡◌, refl, sym, ap, ◌∙◌}
+use Rattle.std.specs.Prelude.{Option, Some, None, unwrap_or}
+use Rattle.std.specs.List.{position, position_or_len}
+use Prim.Native.Nat.{ℕ, suc, ◌+◌, ◌≤◌, ◌<◌}
+use mathlib.Core.Path.{◌≡◌, refl, sym, ap, subst, ◌∙◌}
 use mathlib.Core.List.{List, [], ◌∷◌}
 use mathlib.Core.Bool.{Bool, true, false, cond, not, ◌&&◌, ◌||◌, and-false, and-eq-true_iff}
-use mathlib.Core.Logic.{◌⊎◌, inl, inr}
+use mathlib.Core.Logic.{◌⊎◌, inl, inr, ◌≢◌}
 use native.Mathlib.Omega.{arith}
 use native.Mathlib.Nat.{add-zero}
 use native.Mathlib.Numerals.{add-one}
-use borrow.Author.Tests.{lt-ltb, le-ltb, lt-leb, le-leb, ne_eqb, eqb-true, eqb-false, not-true}
-use lib.ListN.{length, get_or, set, drop, drop_of_length-le}
-use lib.Seq.{drop-cons}
+use borrow.Author.Tests.{lt-ltb, le-ltb, lt-leb, le-leb, ne_eqb, eqb-true, eqb-false, ltb-false, not-true}
+use lib.ListN.{length, get_or, set, take, drop, drop_of_length-le}
+use lib.Seq.{drop-cons, take_all}
 use lib.Dec.{eqb, leb, ltb}
 use Rattle.ground.specs.Ranges.{in_range}
-use Rattle.ground.proofs.Cases.{never, below, in_range_lem, either, neither}
+use Rattle.ground.proofs.Cases.{never, below, cond_cases, in_range_lem}
 use Rattle.text.specs.Control.{is_character, etx, enq, lf, cr, space}
 use Rattle.settings.specs.Mnemonics.{is_err}
 use Rattle.settings.specs.declared.model.Model.{Model}
 use Rattle.settings.specs.declared.mnemonic.Replying.{Replying}
-use Rattle.ports.specs.Line.{blank, with_line, grown, is_empty}
+use Rattle.ports.specs.Line.{with_line, spoilt, grown, is_empty}
 use Rattle.ports.specs.Hearing.{kind_of, by_selection, asked, quiet, by_kind, heard}
 use Rattle.ports.specs.Walk.{again, repeats, settled, is_typed, typing, typed_one, typed_all}
 use Rattle.ports.specs.declared.Port.{Port}
-use Rattle.ports.specs.declared.Selection.{Selection}
-use Rattle.ports.specs.declared.Selection.TheVariants.{Nothing, Chosen}
 use Rattle.ports.specs.declared.Event.TheVariants.{Reply}
-use Rattle.ports.specs.declared.typing.Typed.{Typed}
 use Rattle.ports.specs.declared.hearing.ByteKind.TheVariants.{Dropped, Character, Spoiling}
 
 -- ---- the typed bytes from a place on
@@ -33,14 +32,6 @@ module _ (input : List ℕ) (i : ℕ) where
   pub typing_more : i < length input → is_typed (get_or input i 0) ≡ true → typing (drop i input) ≡ get_or input i 0 ∷ typing (drop (i + 1) input)
   unfolding typing
   typing_more h e = rw (drop-cons input i 0 h, add-one i) (rw e)
-
-  pub typing_other : i < length input → is_typed (get_or input i 0) ≡ false → typing (drop i input) ≡ []
-  unfolding typing
-  typing_other h e = rw (drop-cons input i 0 h) (rw e)
-
-  pub typing_end : length input ≤ i → typing (drop i input) ≡ []
-  unfolding typing
-  typing_end h = rw (drop_of_length-le input {i = i} h)
 
 -- ---- one byte
 
@@ -87,9 +78,9 @@ pub enq_heard : (model : Model) (p q next : Port) (m : Replying) (b : ℕ) → b
 unfolding heard kind_of by_kind
 enq_heard model p q next m b enq settles event port = rw (enq, and-false p.ended, ← settles) (λ i. record { port = port i; event = event i })
 
-answered_stays : (p : Port) (s : Selection) → again s ≡ true → p ≡ (by_selection p s).port
-answered_stays p Nothing e = never (cc)
-answered_stays p (Chosen m) e = rw (not-true (is_err m) e)
+answered_stays : (p : Port) (s : Option Replying) → again s ≡ true → p ≡ (by_selection p s).port
+answered_stays p None e = never (cc)
+answered_stays p (Some m) e = rw (not-true (is_err m) e)
 
 -- where the selection answers again, the port is as it was
 pub repeats_stays : (p : Port) → repeats p ≡ true → p ≡ (asked p).port
@@ -98,66 +89,75 @@ repeats_stays p e = let t = (and-eq-true_iff (is_empty p) (again p.selection)).0
 
 -- ---- the run
 
--- the port with other places of its line, and all else as it was
-abbrev lined : Port → List ℕ → Port
-lined p line = with_line p line p.len p.bad
+-- what stands before the first byte that is not typed
+before : (bs : List ℕ) → take (position_or_len (λ b. not (is_typed b)) bs) bs ≡ typing bs
+unfolding typing
+before [] = refl
+before (b ∷ bs) = of (is_typed b) (before bs)
+  where
+    of : (t : Bool) → take (position_or_len (λ b. not (is_typed b)) bs) bs ≡ typing bs
+        → take (cond (not (not t)) (1 + position_or_len (λ b. not (is_typed b)) bs) 0) (b ∷ bs) ≡ cond t (b ∷ typing bs) []
+    of true e =
+        let m = position_or_len (λ b. not (is_typed b)) bs in
+        let q : 1 + m ≡ suc m = omega arith in
+        rw q (ap (λ (l : List ℕ). b ∷ l) e)
+    of false e = refl
 
--- where the gathering stands at the place i, with the line so far in the port
-pub record Gathering (p : Port) (input : List ℕ) (from : ℕ) (port : Port) (len : ℕ) (bad : Bool) (i : ℕ) : Type 0 where
-  pub same : port ≡ lined p port.line
-  pub all : typed_all (settled p) (typing (drop from input)) ≡ typed_all (with_line (settled port) port.line len bad) (typing (drop i input))
-  pub count : from + length (typing (drop from input)) ≡ i + length (typing (drop i input))
+pub typed_part : (bs : List ℕ) (n : Option ℕ) → n ≡ position (λ b. not (is_typed b)) bs → take (unwrap_or n (length bs)) bs ≡ typing bs
+typed_part bs n e = rw e (by (ltb m (length bs)) refl ∙ before bs)
+  where
+    m : ℕ
+    m = position_or_len (λ b. not (is_typed b)) bs
 
-pub start : (p : Port) (input : List ℕ) (from : ℕ) → Gathering p input from p p.len p.bad from
-start p input from = record { same = refl; all = refl; count = refl }
+    by : (t : Bool) → ltb m (length bs) ≡ t → take (unwrap_or (cond t (Some m) None) (length bs)) bs ≡ take m bs
+    by true q = refl
+    by false q = take_all (length bs) bs (omega arith) ∙ sym (take_all m bs (ltb-false m (length bs) q))
 
--- the port is settled by the first byte of the run; without one it is as it was
-settled_first : (p port now : Port) (from i : ℕ) (bs : List ℕ) → from + length bs ≡ i → port ≡ lined p now.line → typed_all (settled p) bs ≡ now
-    → cond (ltb from i) now port ≡ typed_all p bs
+pub typed_count : (bs : List ℕ) → length (typing bs) ≤ length bs
+unfolding typing
+typed_count [] = omega arith
+typed_count (b ∷ bs) = cond_cases (λ (l : List ℕ). length l ≤ length (b ∷ bs)) (is_typed b) (b ∷ typing bs) [] (λ _. omega (arith, typed_count bs)) (λ _. omega arith)
+
+-- where the port stands before the rest of the run: settled, and to be typed as the whole run on the port that came
+pub record Gathered (p : Port) (run : List ℕ) (port : Port) (i : ℕ) : Type 0 where
+  pub settles : port ≡ settled port
+  pub all : typed_all p run ≡ typed_all port (drop i run)
+
+-- the first byte settles the port
+pub settled_first : (p : Port) (run : List ℕ) → 0 < length run → Gathered p run (settled p) 0
 unfolding typed_all typed_one
-settled_first p port now from i [] e same all = rw (le-ltb from i (omega arith)) (same ∙ ap (λ (x : Port). lined p x.line) (sym all))
-settled_first p port now from i (b ∷ bs) e same all = rw (lt-ltb from i (omega arith)) (sym all)
+settled_first p [] h = absurd (omega arith)
+settled_first p (b ∷ bs) h = record { settles = refl; all = refl }
 
-module _ {p : Port} {input : List ℕ} {from : ℕ} {port : Port} {len : ℕ} {bad : Bool} {i : ℕ} (g : Gathering p input from port len bad i) where
-  abbrev now : Port
-  now = with_line (settled port) port.line len bad
+grown_settles : (p : Port) (b : ℕ) → grown (settled p) b ≡ settled (grown (settled p) b)
+unfolding grown
+grown_settles p b = by p.bad (ltb p.len 80)
+  where
+    by : (bad room : Bool) → cond bad (settled p) (cond room (with_line (settled p) (set p.line p.len b) (p.len + 1) p.bad) (spoilt (settled p)))
+        ≡ settled (cond bad (settled p) (cond room (with_line (settled p) (set p.line p.len b) (p.len + 1) p.bad) (spoilt (settled p))))
+    by true room = refl
+    by false true = refl
+    by false false = refl
 
+-- a byte more
+module _ {p : Port} {run : List ℕ} {port : Port} {i : ℕ} (g : Gathered p run port i) (more : i < length run) where
   abbrev byte : ℕ
-  byte = get_or input i 0
+  byte = get_or run i 0
 
-  -- a byte more, by the tests of the code
-  module _ (more : i < length input) (typed : is_typed byte ≡ true) where
-    step : (line : List ℕ) (len' : ℕ) (bad' : Bool) → typed_one now byte ≡ with_line (settled port) line len' bad' → Gathering p input from (lined port line) len' bad' (i + 1)
-    unfolding typed_all
-    step line len' bad' q =
-        let m = typing_more input i more typed in
-        record {
-          same = ap (λ (x : Port). lined x line) g.same;
-          all = g.all ∙ ap (typed_all now) m ∙ ap (λ (x : Port). typed_all x (typing (drop (i + 1) input))) q;
-          count = g.count ∙ rw m (omega arith);
-        }
-
-    pub kept : not (eqb byte space) && not bad ≡ false → Gathering p input from port len bad (i + 1)
-    unfolding typed_one grown
-    kept h = step port.line len bad (either (eqb byte space) bad now _ h)
-
-    module _ (h : not (eqb byte space) && not bad ≡ true) where
-      tests : (eqb byte space ≡ false) × (bad ≡ false)
-      tests = neither (eqb byte space) bad h
-
-      pub longer : len < 80 → Gathering p input from (lined port (set port.line len byte)) (len + 1) bad (i + 1)
-      unfolding typed_one grown
-      longer l = step (set port.line len byte) (len + 1) bad (rw (tests.0, tests.1, lt-ltb len 80 l))
-
-      pub spoils : 80 ≤ len → Gathering p input from (lined port blank) 0 true (i + 1)
-      unfolding typed_one grown
-      spoils l = step blank 0 true (rw (tests.0, tests.1, le-ltb len 80 l))
-
-  pub ended : typing (drop i input) ≡ []
-      → ◌≡◌ {A = Typed} (record { port = cond (ltb from i) now port; at = i })
-      (record { port = typed_all p (typing (drop from input)); at = from + length (typing (drop from input)) })
+  step : (next : Port) → next ≡ typed_one port byte → next ≡ settled next → Gathered p run next (i + 1)
   unfolding typed_all
-  ended e =
-      let bs = typing (drop from input) in
-      let at : from + length bs ≡ i = g.count ∙ rw e (add-zero i) in
-      rw (at, settled_first p port now from i bs at g.same (g.all ∙ ap (typed_all now) e))
+  step next q settles = record { settles = settles; all = g.all ∙ rw (drop-cons run i 0 more, add-one i, q) }
+
+  pub passed : byte ≡ 32 → Gathered p run port (i + 1)
+  unfolding typed_one
+  passed h = step port (rw h g.settles) g.settles
+
+  pub gathered : byte ≢ 32 → Gathered p run (grown port byte) (i + 1)
+  unfolding typed_one
+  gathered h =
+      step (grown port byte) (rw (ne_eqb byte 32 h, ← g.settles))
+      (subst (λ (q : Port). grown q byte ≡ settled (grown q byte)) (sym g.settles) (grown_settles port byte))
+
+pub gathered_all : {p : Port} {run : List ℕ} {port : Port} {i : ℕ} → Gathered p run port i → length run ≤ i → port ≡ typed_all p run
+unfolding typed_all
+gathered_all {p} {run} {port} {i} g h = sym (g.all ∙ rw (drop_of_length-le run {i = i} h))

@@ -1,4 +1,5 @@
 -- What the definitions give where docs/promises/ names a wrong answer.
+use Rattle.std.specs.Prelude.{Some, None, Ok}
 use Prim.Native.Nat.{ℕ, ◌+◌, ◌≤◌}
 use mathlib.Core.Path.{◌≡◌, refl}
 use mathlib.Core.List.{List, [], ◌∷◌, map}
@@ -19,14 +20,13 @@ use Rattle.settings.specs.declared.mnemonic.Replying.TheVariants.{OfQuery}
 use Rattle.settings.specs.declared.mnemonic.Mnemonic.TheVariants.{Com}
 use Rattle.settings.specs.declared.rows.Row.{Row}
 use Rattle.lines.specs.Judging.{judged}
-use Rattle.lines.specs.declared.verdict.Verdict.TheVariants.{Writes}
 use Rattle.ports.specs.Line.{spoilt, grown, held, is_empty}
 use Rattle.ports.specs.Stream.{with_stream, ticked}
 use Rattle.ports.specs.Hearing.{kind_of, fresh_port, concluded, worded, replied, asked, quiet, by_kind, heard}
 use Rattle.ports.specs.Walk.{again, settled, is_typed, typed_one, typed_all}
 use Rattle.ports.specs.Limits.{line_within, is_interval, port_within}
 use Rattle.ports.specs.declared.Port.{Port}
-use Rattle.ports.specs.declared.Selection.TheVariants.{Nothing, Chosen}
+use Rattle.lines.specs.declared.verdict.Order.TheVariants.{Writes}
 
 -- ---- a fresh port
 
@@ -47,12 +47,12 @@ pub del_spoils : (model : Model) (p : Port) → heard model p 127 ≡ quiet (spo
 unfolding heard kind_of by_kind
 del_spoils model p = rw (and-false p.ended)
 
-pub com_unselected : (model : Model) (p : Port) (r : Row) → judged model (held p) ≡ Writes Com r → (heard model p cr).port.selection ≡ Nothing
+pub com_unselected : (model : Model) (p : Port) (r : Row) → judged model (held p) ≡ Ok (Writes Com r) → (heard model p cr).port.selection ≡ None
 unfolding heard kind_of by_kind concluded
 com_unselected model p r e = rw (and-false p.ended, e)
 
 -- an ENQ on an empty line is answered by the selection, which stays
-pub selection_answers : (p : Port) (m : Replying) → is_empty p ≡ true → p.selection ≡ Chosen m → asked p ≡ replied p m
+pub selection_answers : (p : Port) (m : Replying) → is_empty p ≡ true → p.selection ≡ Some m → asked p ≡ replied p m
 unfolding asked
 selection_answers p m e s = rw (e, s)
 
@@ -62,7 +62,7 @@ unfolding asked
 word_answers p e = rw e
 
 -- nothing selected, SPS, and ERR, whose word is gone once it is sent
-pub selection_repeats : map again (Nothing ∷ Chosen (OfQuery Sps) ∷ Chosen (OfQuery Err) ∷ []) ≡ false ∷ true ∷ false ∷ []
+pub selection_repeats : map again (None ∷ Some (OfQuery Sps) ∷ Some (OfQuery Err) ∷ []) ≡ false ∷ true ∷ false ∷ []
 unfolding is_err same
 selection_repeats = refl
 

@@ -1,4 +1,3 @@
-pub mod Gathering
 pub mod PortLimits
 pub mod Characters
 pub mod Instances

@@ -1,4 +1,5 @@
 -- No byte and no tick takes a port out of its limits; what it makes of a line, and what it answers.
+use Rattle.std.specs.Prelude.{Option, Some, None, Ok, Err}
 use Prim.Native.Nat.{ℕ, zero, suc, ◌+◌, ◌≤◌, ◌<◌}
 use mathlib.Core.Path.{◌≡◌, refl, ap, subst}
 use mathlib.Core.List.{List}
@@ -21,7 +22,7 @@ use Rattle.settings.specs.Table.{entry, whole}
 use Rattle.settings.specs.Mnemonics.{is_err, answers}
 use Rattle.settings.specs.Limits.{same_number, fits}
 use Rattle.settings.specs.declared.model.Model.{Model}
-use Rattle.settings.specs.declared.mnemonic.Query.TheVariants.{Err}
+use Rattle.settings.specs.declared.mnemonic.Query.TheVariants.{Err as ErrQuery}
 use Rattle.settings.specs.declared.mnemonic.Replying.{Replying}
 use Rattle.settings.specs.declared.mnemonic.Replying.TheVariants.{OfQuery}
 use Rattle.settings.specs.declared.mnemonic.Mnemonic.{Mnemonic}
@@ -34,8 +35,6 @@ use Rattle.lines.specs.Words.{no_error, gathered}
 use Rattle.lines.specs.Judging.{judged}
 use Rattle.lines.specs.declared.word.Word.{Word}
 use Rattle.lines.specs.declared.verdict.Fault.{Fault}
-use Rattle.lines.specs.declared.verdict.Verdict.{Verdict}
-use Rattle.lines.specs.declared.verdict.Verdict.TheVariants.{Asks, Writes, Refused}
 use Rattle.lines.proofs.WrittenLimits.{writes_fitting}
 use Rattle.lines.proofs.Answerable.{asks_answers, writes_answers}
 use Rattle.ports.specs.Line.{blank, with_line, emptied, spoilt, grown, held, is_empty}
@@ -44,14 +43,14 @@ use Rattle.ports.specs.Hearing.{is_dropped, kind_of, fresh_port, with_mark, with
 use Rattle.ports.specs.Walk.{settled}
 use Rattle.ports.specs.Limits.{line_within, is_interval, stream_within, selection_within, port_within, PortShaped}
 use Rattle.ports.specs.declared.Port.{Port}
-use Rattle.ports.specs.declared.Selection.{Selection}
-use Rattle.ports.specs.declared.Selection.TheVariants.{Nothing, Chosen}
 use Rattle.ports.specs.declared.Event.{Event}
 use Rattle.ports.specs.declared.Event.TheVariants.{Silent, Line, Reply}
 use Rattle.ports.specs.declared.Heard.{Heard}
 use Rattle.ports.specs.declared.Ticked.{Ticked}
 use Rattle.ports.specs.declared.hearing.ByteKind.{ByteKind}
 use Rattle.ports.specs.declared.hearing.ByteKind.TheVariants.{Cr, Dropped, Etx, Enq, Character, Spoiling}
+use Rattle.lines.specs.declared.verdict.Order.TheVariants.{Asks, Writes}
+use Rattle.lines.specs.Verdicts.{Verdict}
 
 -- ---- a byte and a tick, by what they come to
 
@@ -81,13 +80,13 @@ module _ (P : Heard → Type 0) (model : Model) (p : Port) (b : ℕ) (not-cr : b
       cond_cases P (p.ended && eqb b lf) (quiet (with_mark p false)) (by_kind model (kind_of b) (settled p) b)
       (λ e. kept (rw ((and-eq-true_iff p.ended (eqb b lf)).0 e).1)) (λ _. inner_kind)
 
-asked_by : (P : Heard → Type 0) (p : Port) → P (worded p) → ((m : Replying) → p.selection ≡ Chosen m → P (replied p m)) → P (asked p)
+asked_by : (P : Heard → Type 0) (p : Port) → P (worded p) → ((m : Replying) → p.selection ≡ Some m → P (replied p m)) → P (asked p)
 unfolding asked
 asked_by P p w f = cond_cases P (is_empty p) (by_selection p p.selection) (worded p) (λ _. by p.selection refl) (λ _. w)
   where
-    by : (s : Selection) → p.selection ≡ s → P (by_selection p s)
-    by Nothing e = w
-    by (Chosen m) e = f m e
+    by : (s : Option Replying) → p.selection ≡ s → P (by_selection p s)
+    by None e = w
+    by (Some m) e = f m e
 
 ticked_by : (P : Port → Type 0) (p : Port) → P p
     → (eqb p.interval 0 ≡ false → (n : ℕ) → ltb n p.interval ≡ true → P (with_stream p p.interval n)) → P (ticked p).port
@@ -116,16 +115,16 @@ begun_line p Sav r = refl
 
 concluded_line : (p : Port) (v : Verdict) → (concluded p v).line ≡ p.line
 unfolding concluded
-concluded_line p (Asks m) = refl
-concluded_line p (Writes m r) = begun_line (with_choice p (selected m) p.error) m r
-concluded_line p (Refused x) = refl
+concluded_line p (Ok (Asks m)) = refl
+concluded_line p (Ok (Writes m r)) = begun_line (with_choice p (selected m) p.error) m r
+concluded_line p (Err x) = refl
 
 -- so many places
 abbrev Long : Port → Type 0
 Long p = length p.line ≡ 80
 
 replied_long : (p : Port) (m : Replying) → Long p → Long (replied p m).port
-replied_long p m e = cond_cases Long (is_err m) (with_choice p (Chosen m) no_error) p (λ _. e) (λ _. e)
+replied_long p m e = cond_cases Long (is_err m) (with_choice p (Some m) no_error) p (λ _. e) (λ _. e)
 
 kind_long : (model : Model) (k : ByteKind) (p : Port) (b : ℕ) → Long p → Long (by_kind model k p b).port
 unfolding by_kind
@@ -173,7 +172,7 @@ module _ {model : Model} {p : Port} (w : Parts model p) where
   unfolding line_within
   with_stream_lem interval ticks h = record { line = w.line; stream = h; selection = w.selection }
 
-  with_choice_lem : (s : Selection) (error : Word) → selection_within model s ≡ true → Parts model (with_choice p s error)
+  with_choice_lem : (s : Option Replying) (error : Word) → selection_within model s ≡ true → Parts model (with_choice p s error)
   unfolding line_within
   with_choice_lem s error h = record { line = w.line; stream = w.stream; selection = h }
 
@@ -243,33 +242,33 @@ begun_parts model p (OfReplying a) r f w = w
 begun_parts model p Com r f w = with_stream_lem w (interval_of (first_number r)) 0 (mode_within p (first_number r) (com_mode model r f))
 begun_parts model p Sav r f w = w
 
-written_selects : (model : Model) (line : List ℕ) (m : Mnemonic) (r : Row) → judged model line ≡ Writes m r → selection_within model (selected m) ≡ true
+written_selects : (model : Model) (line : List ℕ) (m : Mnemonic) (r : Row) → judged model line ≡ Ok (Writes m r) → selection_within model (selected m) ≡ true
 written_selects model line (OfReplying a) r e = writes_answers model a line r e
 written_selects model line Com r e = refl
 written_selects model line Sav r e = refl
 
 concluded_parts : (model : Model) (p : Port) (line : List ℕ) (v : Verdict) → judged model line ≡ v → Parts model p → Parts model (concluded p v)
 unfolding concluded
-concluded_parts model p line (Asks a) e w = with_choice_lem w (Chosen a) p.error (asks_answers model a line e)
-concluded_parts model p line (Writes m r) e w =
+concluded_parts model p line (Ok (Asks a)) e w = with_choice_lem w (Some a) p.error (asks_answers model a line e)
+concluded_parts model p line (Ok (Writes m r)) e w =
     begun_parts model (with_choice p (selected m) p.error) m r (writes_fitting model line m r e)
     (with_choice_lem w (selected m) p.error (written_selects model line m r e))
-concluded_parts model p line (Refused x) e w = with_choice_lem w Nothing (gathered p.error x) refl
+concluded_parts model p line (Err x) e w = with_choice_lem w None (gathered p.error x) refl
 
 -- ---- a byte
 
-replied_parts : (model : Model) (p : Port) (m : Replying) → p.selection ≡ Chosen m → Parts model p → Parts model (replied p m).port
+replied_parts : (model : Model) (p : Port) (m : Replying) → p.selection ≡ Some m → Parts model p → Parts model (replied p m).port
 replied_parts model p m e w =
-    cond_cases (Parts model) (is_err m) (with_choice p (Chosen m) no_error) p
-    (λ _. with_choice_lem w (Chosen m) no_error (subst (λ (s : Selection). selection_within model s ≡ true) e w.selection)) (λ _. w)
+    cond_cases (Parts model) (is_err m) (with_choice p (Some m) no_error) p
+    (λ _. with_choice_lem w (Some m) no_error (subst (λ (s : Option Replying). selection_within model s ≡ true) e w.selection)) (λ _. w)
 
 kind_parts : (model : Model) (k : ByteKind) (p : Port) (b : ℕ) → kind_of b ≡ k → Long p → Parts model p → Parts model (by_kind model k p b).port
 unfolding by_kind
 kind_parts model Cr p b c e w = concluded_parts model (with_mark (emptied p) true) (held p) (judged model (held p)) refl (with_mark_lem (cleared w false) true)
 kind_parts model Dropped p b c e w = w
-kind_parts model Etx p b c e w = with_choice_lem (cleared w false) Nothing p.error refl
+kind_parts model Etx p b c e w = with_choice_lem (cleared w false) None p.error refl
 kind_parts model Enq p b c e w =
-    asked_by (λ (h : Heard). Parts model h.port) p (with_choice_lem (cleared w false) Nothing no_error refl) (λ m s. replied_parts model p m s w)
+    asked_by (λ (h : Heard). Parts model h.port) p (with_choice_lem (cleared w false) None no_error refl) (λ m s. replied_parts model p m s w)
 kind_parts model Character p b c e w =
     grown_by (Parts model) p b w (cleared w true) (λ g l. with_line_lem w _ _ _ (longer_within p b e w.line (is_character_lem b c) g l))
 kind_parts model Spoiling p b c e w = cleared w true
@@ -312,7 +311,7 @@ cr_byte b = by (eqb b cr) (is_dropped b) (eqb b etx) (eqb b enq) (is_character b
 
 -- only a CR ends a line
 module _ (Q : Event → Type 0) (model : Model) (p : Port) (b : ℕ) (silent : Q Silent) (line : b ≡ cr → Q (Line (judged model (held p))))
-    (word : Q (Reply (OfQuery Err) p.error)) (reply : (m : Replying) → p.selection ≡ Chosen m → Q (Reply m p.error)) where
+    (word : Q (Reply (OfQuery ErrQuery) p.error)) (reply : (m : Replying) → p.selection ≡ Some m → Q (Reply m p.error)) where
   kind_event : (k : ByteKind) → kind_of b ≡ k → Q (by_kind model k (stopped (with_mark p false)) b).event
   unfolding by_kind
   kind_event Cr e = line (cr_byte b e)
@@ -331,7 +330,7 @@ heard_line model p b v =
     heard_event (λ (x : Event). x ≡ Line v → v ≡ judged model (held p)) model p b
     (λ e. never (cc)) (λ _ e. cc) (λ e. never (cc)) (λ m _ e. never (cc))
 
-err_answers : (model : Model) → answers model (OfQuery Err) ≡ true
+err_answers : (model : Model) → answers model (OfQuery ErrQuery) ≡ true
 unfolding answers
 err_answers model = first_there model
 
@@ -340,14 +339,14 @@ pub reply_answers : (model : Model) (p : Port) (b : ℕ) (m : Replying) (w : Wor
     → answers model m ≡ true
 reply_answers model p b m w h =
     heard_event (λ (x : Event). x ≡ Reply m w → answers model m ≡ true) model p b
-    (λ e. never (cc)) (λ _ e. never (cc)) (λ e. told (OfQuery Err) (cc) (err_answers model))
-    (λ n s e. told n (cc) (subst (λ (s : Selection). selection_within model s ≡ true) s (parts model p h).selection))
+    (λ e. never (cc)) (λ _ e. never (cc)) (λ e. told (OfQuery ErrQuery) (cc) (err_answers model))
+    (λ n s e. told n (cc) (subst (λ (s : Option Replying). selection_within model s ≡ true) s (parts model p h).selection))
   where
     told : (n : Replying) → n ≡ m → answers model n ≡ true → answers model m ≡ true
     told n e = subst (λ (n : Replying). answers model n ≡ true) e
 
 -- a refused line clears the selection and keeps the digits that had gathered
-pub refused_port : (model : Model) (p : Port) (x : Fault) → judged model (held p) ≡ Refused x
-    → ((cr_heard model p).port.selection ≡ Nothing) × ((cr_heard model p).port.error ≡ gathered p.error x)
+pub refused_port : (model : Model) (p : Port) (x : Fault) → judged model (held p) ≡ Err x
+    → ((cr_heard model p).port.selection ≡ None) × ((cr_heard model p).port.error ≡ gathered p.error x)
 unfolding concluded
 refused_port model p x e = (rw e, rw e)

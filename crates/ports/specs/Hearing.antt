@@ -1,10 +1,10 @@
 -- One byte of the host (01, "Bytes from the host").
-use Rattle.std.specs.Prelude.{ℕ, Bool, true, false, cond, ◌&&◌, ◌||◌, eqb}
+use Rattle.std.specs.Prelude.{ℕ, Bool, true, false, cond, ◌&&◌, ◌||◌, eqb, Option, Some, None, Ok, Err}
 use Rattle.text.specs.Control.{etx, enq, lf, cr, space, is_character}
 use Rattle.settings.specs.Models.{power_on_mode}
 use Rattle.settings.specs.Mnemonics.{is_err}
 use Rattle.settings.specs.declared.model.Model.{Model}
-use Rattle.settings.specs.declared.mnemonic.Query.TheVariants.{Err}
+use Rattle.settings.specs.declared.mnemonic.Query.TheVariants.{Err as ErrQuery}
 use Rattle.settings.specs.declared.mnemonic.Replying.{Replying}
 use Rattle.settings.specs.declared.mnemonic.Replying.TheVariants.{OfQuery}
 use Rattle.settings.specs.declared.mnemonic.Mnemonic.{Mnemonic}
@@ -13,17 +13,15 @@ use Rattle.lines.specs.Words.{no_error, gathered}
 use Rattle.lines.specs.Judging.{judged}
 use Rattle.lines.specs.declared.word.Word.{Word}
 use Rattle.lines.specs.declared.verdict.Fault.{Fault}
-use Rattle.lines.specs.declared.verdict.Verdict.{Verdict}
-use Rattle.lines.specs.declared.verdict.Verdict.TheVariants.{Asks, Writes, Refused}
 use Rattle.ports.specs.Line.{blank, emptied, spoilt, grown, held, is_empty}
 use Rattle.ports.specs.Stream.{interval_of, stopped, begun}
 use Rattle.ports.specs.declared.Port.{Port}
-use Rattle.ports.specs.declared.Selection.{Selection}
-use Rattle.ports.specs.declared.Selection.TheVariants.{Nothing, Chosen}
 use Rattle.ports.specs.declared.Event.TheVariants.{Silent, Line, Reply}
 use Rattle.ports.specs.declared.Heard.{Heard}
 use Rattle.ports.specs.declared.hearing.ByteKind.{ByteKind}
 use Rattle.ports.specs.declared.hearing.ByteKind.TheVariants.{Cr, Dropped, Etx, Enq, Character, Spoiling}
+use Rattle.lines.specs.declared.verdict.Order.TheVariants.{Asks, Writes}
+use Rattle.lines.specs.Verdicts.{Verdict}
 
 -- "Any other LF, and every space, is dropped."
 abbrev pub is_dropped : ℕ → Bool
@@ -40,21 +38,21 @@ kind_of b =
 
 -- "no line, selection, error or reading, mode 1 streaming"; an LF "after a fresh box or a power cycle, is another LF"
 abbrev pub fresh_port : Model → Port
-fresh_port model = record { line = blank; len = 0; bad = false; ended = false; selection = Nothing; error = no_error; interval = interval_of (power_on_mode model); ticks = 0 }
+fresh_port model = record { line = blank; len = 0; bad = false; ended = false; selection = None; error = no_error; interval = interval_of (power_on_mode model); ticks = 0 }
 
 -- the port with another mark of "straight after a CR"
 abbrev pub with_mark : Port → Bool → Port
 with_mark p ended = record { line = p.line; len = p.len; bad = p.bad; ended = ended; selection = p.selection; error = p.error; interval = p.interval; ticks = p.ticks }
 
 -- the port with another selection and error word
-abbrev pub with_choice : Port → Selection → Word → Port
+abbrev pub with_choice : Port → Option Replying → Word → Port
 with_choice p selection error = record { line = p.line; len = p.len; bad = p.bad; ended = p.ended; selection = selection; error = error; interval = p.interval; ticks = p.ticks }
 
 -- "selects its mnemonic; after COM and SAV the selection is none"
-abbrev pub selected : Mnemonic → Selection
-selected (OfReplying a) = Chosen a
-selected Com = Nothing
-selected Sav = Nothing
+abbrev pub selected : Mnemonic → Option Replying
+selected (OfReplying a) = Some a
+selected Com = None
+selected Sav = None
 
 -- "An accepted line .. selects its mnemonic"
 abbrev pub accepted : Port → Mnemonic → Port
@@ -62,13 +60,13 @@ accepted p m = with_choice p (selected m) p.error
 
 -- "A refused one .. sets its error digit and clears the selection."
 abbrev pub refused : Port → Fault → Port
-refused p x = with_choice p Nothing (gathered p.error x)
+refused p x = with_choice p None (gathered p.error x)
 
 -- a line that asks, one that writes, which can begin the stream, one that is refused
 unfoldable pub concluded : Port → Verdict → Port
-concluded p (Asks a) = accepted p (OfReplying a)
-concluded p (Writes m r) = begun (accepted p m) m r
-concluded p (Refused x) = refused p x
+concluded p (Ok (Asks a)) = accepted p (OfReplying a)
+concluded p (Ok (Writes m r)) = begun (accepted p m) m r
+concluded p (Err x) = refused p x
 
 -- "CR ends a line."
 abbrev pub cr_heard : Model → Port → Heard
@@ -76,20 +74,20 @@ cr_heard model p = let v = judged model (held p) in record { port = concluded (w
 
 -- "ETX empties the line, a bad one too, clears the selection"; an ENQ "drops line and selection"
 abbrev pub dropped : Port → Word → Port
-dropped p error = with_choice (emptied p) Nothing error
+dropped p error = with_choice (emptied p) None error
 
 -- "it drops line and selection and sends the error word"; "then it is 0000"
 abbrev pub worded : Port → Heard
-worded p = record { port = dropped p no_error; event = Reply (OfQuery Err) p.error }
+worded p = record { port = dropped p no_error; event = Reply (OfQuery ErrQuery) p.error }
 
 -- "sends the selected mnemonic's reply, as often as asked"; the error word is sent "through ERR" too
 abbrev pub replied : Port → Replying → Heard
-replied p a = record { port = cond (is_err a) (with_choice p (Chosen a) no_error) p; event = Reply a p.error }
+replied p a = record { port = cond (is_err a) (with_choice p (Some a) no_error) p; event = Reply a p.error }
 
 -- with a selection, or with none
-abbrev pub by_selection : Port → Selection → Heard
-by_selection p Nothing = worded p
-by_selection p (Chosen a) = replied p a
+abbrev pub by_selection : Port → Option Replying → Heard
+by_selection p None = worded p
+by_selection p (Some a) = replied p a
 
 -- "ENQ on an empty line"; "With no selection, or on a line that is not empty (bad ones too)"
 unfoldable pub asked : Port → Heard

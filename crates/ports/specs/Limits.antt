@@ -1,5 +1,5 @@
 -- The limits of a port (01, "Readings, switching, streaming": "State limits").
-use Rattle.std.specs.Prelude.{ℕ, ◌≡◌, Bool, true, not, ◌&&◌, ◌||◌, length, take, drop, eqb, leb, ltb}
+use Rattle.std.specs.Prelude.{ℕ, ◌≡◌, Bool, true, not, ◌&&◌, ◌||◌, length, take, drop, eqb, leb, ltb, Option, Some, None}
 use Rattle.ground.specs.Members.{every}
 use Rattle.ground.specs.Ranges.{in_range}
 use Rattle.text.specs.Control.{is_character}
@@ -7,8 +7,7 @@ use Rattle.settings.specs.Mnemonics.{answers}
 use Rattle.settings.specs.declared.model.Model.{Model}
 use Rattle.ports.specs.Stream.{interval_of}
 use Rattle.ports.specs.declared.Port.{Port}
-use Rattle.ports.specs.declared.Selection.{Selection}
-use Rattle.ports.specs.declared.Selection.TheVariants.{Nothing, Chosen}
+use Rattle.settings.specs.declared.mnemonic.Replying.{Replying}
 
 -- "the line at most 80 with unused places zero, empty when bad"; a used place holds a character
 unfoldable pub line_within : Port → Bool
@@ -25,9 +24,9 @@ abbrev pub stream_within : Port → Bool
 stream_within p = eqb p.interval 0 && eqb p.ticks 0 || is_interval p.interval && ltb p.ticks p.interval
 
 -- "a selection that the model can answer"
-abbrev pub selection_within : Model → Selection → Bool
-selection_within model Nothing = true
-selection_within model (Chosen a) = answers model a
+abbrev pub selection_within : Model → Option Replying → Bool
+selection_within model None = true
+selection_within model (Some a) = answers model a
 
 -- all limits of a port
 unfoldable pub port_within : Model → Port → Bool

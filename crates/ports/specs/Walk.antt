@@ -1,22 +1,17 @@
 -- How the code walks the host's bytes: characters and spaces a run at a time, and an ENQ by what it leaves of the port.
-use Rattle.std.specs.Prelude.{ℕ, min, List, [], ◌∷◌, Bool, false, cond, not, ◌&&◌, ◌||◌, eqb}
+use Rattle.std.specs.Prelude.{ℕ, List, [], ◌∷◌, Bool, false, cond, not, ◌&&◌, ◌||◌, eqb, Option, Some, None}
 use Rattle.text.specs.Control.{space, is_character}
 use Rattle.settings.specs.Mnemonics.{is_err}
 use Rattle.ports.specs.Line.{grown, is_empty}
 use Rattle.ports.specs.Stream.{stopped}
 use Rattle.ports.specs.Hearing.{with_mark}
 use Rattle.ports.specs.declared.Port.{Port}
-use Rattle.ports.specs.declared.Selection.{Selection}
-use Rattle.ports.specs.declared.Selection.TheVariants.{Nothing, Chosen}
-
--- how many characters there are to be judged
-abbrev pub held_count : Port → ℕ
-held_count p = cond p.bad 0 (min p.len 80)
+use Rattle.settings.specs.declared.mnemonic.Replying.{Replying}
 
 -- whether a selection answers "as often as asked" with nothing changed: any but ERR, whose word is gone once it is sent
-abbrev pub again : Selection → Bool
-again Nothing = false
-again (Chosen a) = not (is_err a)
+abbrev pub again : Option Replying → Bool
+again None = false
+again (Some a) = not (is_err a)
 
 -- so on "an empty line"
 abbrev pub repeats : Port → Bool

@@ -1,17 +1,18 @@
 // One byte of the host: what it does to the port, and what it makes the box do.
 ghost use Rattle.std.specs.Prelude.{◌≡◌};
-ghost use Rattle.ports.specs.Hearing.{kind_of, fresh_port, with_mark, with_choice, selected, accepted, refused, concluded, cr_heard, dropped, replied, asked, quiet, by_kind, heard};
+ghost use Rattle.ports.specs.Hearing.{kind_of, fresh_port, with_mark, selected, accepted, refused, concluded, cr_heard, dropped, replied, asked, quiet, by_kind, heard};
 ghost use Rattle.ports.specs.Walk.{repeats, settled};
 ghost use Rattle.ports.specs.declared.Event.TheVariants.{Reply};
 
 use crate::stream::interval_of;
-use crate::{Event, Heard, Port, Selection};
-use lines::verdict::{Fault, Verdict};
+use crate::{Event, Heard, Port};
+use lines::verdict::{Fault, Order, Verdict};
 use lines::word::Word;
 use settings::mnemonic::{Mnemonic, Query, Replying};
 use settings::model::Model;
 use text::control::{CR, ENQ, ETX, LEAST_CHARACTER, LF, MOST_CHARACTER, SPACE};
 
+// A kind and then a match, where one match would do: `kind_of` and `by_kind` are the definitions that a reader believes.
 #[derive(Clone, Copy)]
 enum ByteKind {
     Cr,
@@ -23,35 +24,27 @@ enum ByteKind {
     Spoiling,
 }
 
+#[tactic(auto, unfolding(crate::specs::Hearing::kind_of))]
 fn kind_of(b: u8) -> ByteKind
     ensures { result ≡ kind_of b }
 {
-    if b == CR {
-        return ByteKind::Cr;
+    match b {
+        CR => ByteKind::Cr,
+        LF | SPACE => ByteKind::Dropped,
+        ETX => ByteKind::Etx,
+        ENQ => ByteKind::Enq,
+        LEAST_CHARACTER..=MOST_CHARACTER => ByteKind::Character,
+        _ => ByteKind::Spoiling,
     }
-    if (b == LF) | (b == SPACE) {
-        return ByteKind::Dropped;
-    }
-    if b == ETX {
-        return ByteKind::Etx;
-    }
-    if b == ENQ {
-        return ByteKind::Enq;
-    }
-    if (LEAST_CHARACTER <= b) & (b <= MOST_CHARACTER) {
-        return ByteKind::Character;
-    }
-    ByteKind::Spoiling
 }
 
 // What an accepted line selects.
-fn selects(m: Mnemonic) -> Selection
+fn selects(m: Mnemonic) -> Option<Replying>
     ensures { result ≡ selected m }
 {
     match m {
-        Mnemonic::OfReplying(a) => Selection::Chosen(a),
-        Mnemonic::Com => Selection::Nothing,
-        Mnemonic::Sav => Selection::Nothing,
+        Mnemonic::OfReplying(a) => Some(a),
+        Mnemonic::Com | Mnemonic::Sav => None,
     }
 }
 
@@ -61,11 +54,11 @@ impl Port {
         ensures { result ≡ fresh_port model }
     {
         Port {
-            line: [0u8; 80],
+            line: [0; Port::PLACES],
             len: 0,
             bad: false,
             ended: false,
-            selection: Selection::Nothing,
+            selection: None,
             error: Word::none(),
             interval: interval_of(model.power_on_mode()),
             ticks: 0,
@@ -75,50 +68,37 @@ impl Port {
     fn marked(self, ended: bool) -> Port
         ensures { result ≡ with_mark self ended }
     {
-        let mut p = self;
-        p.ended = ended;
-        p
-    }
-
-    fn with_choice(self, selection: Selection, error: Word) -> Port
-        ensures { result ≡ with_choice self selection error }
-    {
-        let line = self.line;
-        Port {
-            line,
-            len: self.len,
-            bad: self.bad,
-            ended: self.ended,
-            selection,
-            error,
-            interval: self.interval,
-            ticks: self.ticks,
-        }
+        Port { ended, ..self }
     }
 
     fn accepted(self, m: Mnemonic) -> Port
         ensures { result ≡ accepted self m }
     {
-        let error = self.error;
-        self.with_choice(selects(m), error)
+        Port {
+            selection: selects(m),
+            ..self
+        }
     }
 
     fn refused(self, x: Fault) -> Port
         ensures { result ≡ refused self x }
     {
-        let error = self.error;
-        let selection = Selection::Nothing;
-        self.with_choice(selection, error.with(x))
+        Port {
+            selection: None,
+            error: self.error.with(x),
+            ..self
+        }
     }
 
     // The port after a line that was judged.
+    #[tactic(auto, unfolding(crate::specs::Hearing::concluded))]
     fn concluded(self, v: Verdict) -> Port
         ensures { result ≡ concluded self v }
     {
         match v {
-            Verdict::Asks(a) => self.accepted(Mnemonic::OfReplying(a)),
-            Verdict::Writes(m, r) => self.accepted(m).begun(m, r),
-            Verdict::Refused(x) => self.refused(x),
+            Ok(Order::Asks(a)) => self.accepted(Mnemonic::OfReplying(a)),
+            Ok(Order::Writes(m, r)) => self.accepted(m).begun(m, r),
+            Err(x) => self.refused(x),
         }
     }
 
@@ -126,9 +106,8 @@ impl Port {
         ensures { result ≡ cr_heard model self }
     {
         let v = self.judged(model);
-        let port = self.emptied().marked(true).concluded(v);
         Heard {
-            port,
+            port: self.emptied().marked(true).concluded(v),
             event: Event::Line(v),
         }
     }
@@ -137,21 +116,21 @@ impl Port {
     fn dropped(self, error: Word) -> Port
         ensures { result ≡ dropped self error }
     {
-        self.emptied().with_choice(Selection::Nothing, error)
+        Port {
+            selection: None,
+            error,
+            ..self.emptied()
+        }
     }
 
     // The mnemonic whose reply an ENQ sends: the selected one on an empty line, else ERR's, the error word.
+    #[tactic(auto, unfolding(crate::specs::Hearing::asked))]
     pub fn enquiry(self) -> Replying
         ensures { Reply result self.error ≡ (asked self).event }
     {
-        let selection = self.selection;
-        if self.is_empty() {
-            match selection {
-                Selection::Nothing => Replying::OfQuery(Query::Err),
-                Selection::Chosen(a) => a,
-            }
-        } else {
-            Replying::OfQuery(Query::Err)
+        match (self.is_empty(), self.selection) {
+            (true, Some(a)) => a,
+            _ => Replying::OfQuery(Query::Err),
         }
     }
 
@@ -159,25 +138,24 @@ impl Port {
     fn replied(self, a: Replying) -> Port
         ensures { result ≡ (replied self a).port }
     {
-        let selection = Selection::Chosen(a);
         if a.is_err() {
-            return self.with_choice(selection, Word::none());
+            return Port {
+                selection: Some(a),
+                error: Word::none(),
+                ..self
+            };
         }
         self
     }
 
     // The port after an ENQ.
+    #[tactic(auto, unfolding(crate::specs::Hearing::asked))]
     pub fn enquired(self) -> Port
         ensures { result ≡ (asked self).port }
     {
-        let selection = self.selection;
-        if self.is_empty() {
-            match selection {
-                Selection::Nothing => self.dropped(Word::none()),
-                Selection::Chosen(a) => self.replied(a),
-            }
-        } else {
-            self.dropped(Word::none())
+        match (self.is_empty(), self.selection) {
+            (true, Some(a)) => self.replied(a),
+            _ => self.dropped(Word::none()),
         }
     }
 
@@ -185,20 +163,19 @@ impl Port {
     pub fn repeats(self) -> bool
         ensures { result ≡ repeats self }
     {
-        let selection = self.selection;
-        match selection {
-            Selection::Nothing => false,
-            Selection::Chosen(a) => self.is_empty() & !a.is_err(),
+        match (self.is_empty(), self.selection) {
+            (true, Some(a)) => !a.is_err(),
+            _ => false,
         }
     }
 
     fn asked(self) -> Heard
         ensures { result ≡ asked self }
     {
-        let error = self.error;
-        let event = Event::Reply(self.enquiry(), error);
-        let port = self.enquired();
-        Heard { port, event }
+        Heard {
+            port: self.enquired(),
+            event: Event::Reply(self.enquiry(), self.error),
+        }
     }
 
     // Nothing is sent.
@@ -211,14 +188,14 @@ impl Port {
         }
     }
 
+    #[tactic(auto, unfolding(crate::specs::Hearing::by_kind))]
     fn by_kind(self, model: Model, kind: ByteKind, b: u8) -> Heard
         ensures { result ≡ by_kind model kind self b }
     {
-        let error = self.error;
         match kind {
             ByteKind::Cr => self.cr_heard(model),
             ByteKind::Dropped => self.quiet(),
-            ByteKind::Etx => self.dropped(error).quiet(),
+            ByteKind::Etx => self.dropped(self.error).quiet(),
             ByteKind::Enq => self.asked(),
             ByteKind::Character => self.grown(b).quiet(),
             ByteKind::Spoiling => self.spoilt().quiet(),
@@ -233,10 +210,11 @@ impl Port {
     }
 
     // One byte of the host, on a box of the model.
+    #[tactic(auto, unfolding(crate::specs::Hearing::heard))]
     pub fn byte(self, model: Model, b: u8) -> Heard
         ensures { result ≡ heard model self b }
     {
-        if self.ended & (b == LF) {
+        if self.ended && b == LF {
             return self.marked(false).quiet();
         }
         self.settled().by_kind(model, kind_of(b), b)

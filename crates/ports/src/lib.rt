@@ -11,22 +11,18 @@ pub mod line;
 pub mod stream;
 pub mod typing;
 
-// The mnemonic that an ENQ is answered with.
-#[derive(Clone, Copy)]
-pub enum Selection {
-    Nothing,
-    Chosen(Replying),
-}
-
+// Numbers and flags in place of Option and of types with limits: `state_within` and answer 1 speak of states that break these.
 #[derive(Clone, Copy)]
 pub struct Port {
-    pub line: [u8; 80],
+    // eighty places, unused ones zero: the form that 01 names for a line
+    pub line: [u8; Port::PLACES],
     pub len: usize,
     // then the line holds nothing and is refused at CR
     pub bad: bool,
     // whether the last byte was a CR
     pub ended: bool,
-    pub selection: Selection,
+    // the mnemonic that an ENQ is answered with
+    pub selection: Option<Replying>,
     pub error: Word,
     // how many ticks from line to line of the stream; 0 while it is stopped
     pub interval: u32,

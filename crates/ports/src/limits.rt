@@ -1,67 +1,56 @@
 // The limits of a port.
-ghost use Rattle.std.specs.Prelude.{◌≡◌, ◌-◌, ◌≤◌, drop, take};
+ghost use Rattle.std.specs.Prelude.{◌≡◌};
 ghost use Rattle.ground.specs.Members.{every};
 ghost use Rattle.ground.specs.Ranges.{in_range};
 ghost use Rattle.ports.specs.Limits.{line_within, stream_within, selection_within, port_within};
 
-use crate::stream::interval_of;
-use crate::{Port, Selection};
+use crate::Port;
+use crate::stream::INTERVALS;
 use settings::model::Model;
 use text::control::{LEAST_CHARACTER, MOST_CHARACTER};
 
-// Whether the places from a to b hold bytes from low to high; no early end, so that the compiler tests many at once.
-fn all_within(line: [u8; 80], a: usize, b: usize, low: u8, high: u8) -> bool
-    requires { (a ≤ b) × (b ≤ 80) }
-    ensures { result ≡ every (in_range low high) (take (b - a) (drop a line)) }
+// Whether all places hold bytes from low to high; no `all`, whose early end keeps the compiler from testing many at once.
+fn all_within(places: &[u8], low: u8, high: u8) -> bool
+    ensures { result ≡ every (in_range low high) places.now }
 {
-    let mut all = true;
-    let mut i = a;
-    while i < b {
-        let x = line[i];
-        all = all & ((low <= x) & (x <= high));
-        i += 1;
-    }
-    all
+    places
+        .iter()
+        .fold(true, |all, b| all & ((low <= *b) & (*b <= high)))
 }
 
 impl Port {
+    #[tactic(auto, unfolding(crate::specs::Limits::line_within))]
     fn line_is_within(self) -> bool
         ensures { result ≡ line_within self }
     {
-        let line = self.line;
-        let n = self.len;
-        if Port::PLACES < n {
-            return false;
+        match self.line.split_at_checked(self.len) {
+            None => false,
+            Some((used, unused)) => {
+                all_within(used, LEAST_CHARACTER, MOST_CHARACTER)
+                    && all_within(unused, 0, 0)
+                    && (!self.bad || self.len == 0)
+            }
         }
-        let used = all_within(line, 0, n, LEAST_CHARACTER, MOST_CHARACTER);
-        let unused = all_within(line, n, Port::PLACES, 0, 0);
-        (used & unused) & (!self.bad | (n == 0))
     }
 
     fn stream_is_within(self) -> bool
         ensures { result ≡ stream_within self }
     {
-        let n = self.interval;
-        let known = (n == interval_of(0)) | ((n == interval_of(1)) | (n == interval_of(2)));
-        ((n == 0) & (self.ticks == 0)) | (known & (self.ticks < n))
+        (self.interval == 0 && self.ticks == 0)
+            || (INTERVALS.contains(&self.interval) && self.ticks < self.interval)
     }
 
     fn selection_is_within(self, model: Model) -> bool
         ensures { result ≡ selection_within model self.selection }
     {
-        let selection = self.selection;
-        match selection {
-            Selection::Nothing => true,
-            Selection::Chosen(a) => model.answers(a),
-        }
+        self.selection.is_none_or(|a| model.answers(a))
     }
 
     // Whether a box of the model can have such a port.
+    #[tactic(auto, unfolding(crate::specs::Limits::port_within))]
     pub fn is_within(self, model: Model) -> bool
         ensures { result ≡ port_within model self }
     {
-        let line = self.line_is_within();
-        let stream = self.stream_is_within();
-        line & (stream & self.selection_is_within(model))
+        self.line_is_within() && self.stream_is_within() && self.selection_is_within(model)
     }
 }

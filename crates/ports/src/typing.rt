@@ -1,7 +1,6 @@
 // Characters and spaces of the host, gathered into the line a run at a time.
-ghost use Rattle.std.specs.Prelude.{◌≡◌, cond, ◌+◌, length, drop, ltb};
-ghost use Rattle.ports.specs.Line.{with_line};
-ghost use Rattle.ports.specs.Walk.{settled, is_typed, typing, typed_all};
+ghost use Rattle.std.specs.Prelude.{◌≡◌, ◌+◌, length, drop};
+ghost use Rattle.ports.specs.Walk.{is_typed, typing, typed_all};
 
 use crate::Port;
 use text::control::{MOST_CHARACTER, SPACE};
@@ -14,54 +13,47 @@ pub struct Typed {
 }
 
 // Whether a byte is a character or a space.
+#[tactic(auto, using(crate::proofs::Characters::typed_range))]
 pub fn is_typed(b: u8) -> bool
     ensures { result ≡ is_typed b }
 {
-    (SPACE <= b) & (b <= MOST_CHARACTER)
+    (SPACE..=MOST_CHARACTER).contains(&b)
+}
+
+// The typed bytes that the input begins with.
+#[tactic(auto, unfolding(crate::specs::Walk::typing))]
+fn typed_run(input: &[u8]) -> &[u8]
+    ensures { result.now ≡ typing input.now }
+{
+    let count = input
+        .iter()
+        .position(|b| !is_typed(*b))
+        .unwrap_or(input.len());
+    &input[..count]
 }
 
 impl Port {
-    // The port after the bytes between two places, whose line is gathered already; after none it is as it was.
-    fn gathered(self, len: usize, bad: bool, from: usize, at: usize) -> Typed
-        ensures { result ≡ record { port = cond (ltb from at) (with_line (settled self) self.line len bad) self; at = at } }
-    {
-        let mut port = self;
-        if from < at {
-            port.len = len;
-            port.bad = bad;
-            port.ended = false;
-            port.interval = 0;
-            port.ticks = 0;
-            return Typed { port, at };
-        }
-        Typed { port, at }
-    }
-
     // All bytes typed from a place on, up to the first that is another.
+    // A place beside the input and no slice: the promise is of places past the end too, where `from` comes back.
     pub fn typed(self, input: &[u8], from: usize) -> Typed
         ensures { result ≡ record { port = typed_all self (typing (drop from input.now)); at = from + length (typing (drop from input.now)) } }
     {
-        let mut port = self;
-        let mut len = self.len;
-        let mut bad = self.bad;
-        let mut i = from;
-        while i < input.len() {
-            let b = input[i];
-            if !is_typed(b) {
-                return port.gathered(len, bad, from, i);
-            }
-            i += 1;
-            if (b != SPACE) & !bad {
-                if len < Port::PLACES {
-                    port.line[len] = b;
-                    len += 1;
-                } else {
-                    port.line = [0u8; 80];
-                    len = 0;
-                    bad = true;
-                }
+        let run = typed_run(input.get(from..).unwrap_or(&[]));
+        if run.is_empty() {
+            return Typed {
+                port: self,
+                at: from,
+            };
+        }
+        let mut port = self.settled();
+        for b in run {
+            if *b != SPACE {
+                port.grow(*b);
             }
         }
-        port.gathered(len, bad, from, i)
+        Typed {
+            port,
+            at: from + run.len(),
+        }
     }
 }

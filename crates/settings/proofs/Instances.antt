@@ -1,4 +1,5 @@
 -- What the definitions give where docs/promises/ names a wrong answer, for each of the three models.
+use Rattle.std.specs.Prelude.{Some, None}
 use Prim.Native.Nat.{ℕ}
 use Prim.Native.String.{String}
 use mathlib.Core.Path.{◌≡◌, refl}
@@ -20,11 +21,9 @@ use Rattle.settings.specs.Mnemonics.{settings_held, sheet, sheet_at, setting, kn
 use Rattle.settings.specs.Limits.{cells_fit, within}
 use Rattle.settings.specs.declared.model.Model.{Model}
 use Rattle.settings.specs.declared.model.Model.TheVariants.{Tpg361, Tpg362, Tpg262}
-use Rattle.settings.specs.declared.model.Numbered.TheVariants.{One, NoModel}
 use Rattle.settings.specs.declared.mnemonic.Setting.{Setting}
 use Rattle.settings.specs.declared.mnemonic.Setting.TheVariants.{Cal, Sp, Stored}
 use Rattle.settings.specs.declared.mnemonic.Query.TheVariants.{Pr, Ayt, Err}
-use Rattle.settings.specs.declared.mnemonic.Named.TheVariants.{Known, Unknown}
 use Rattle.settings.specs.declared.mnemonic.Replying.TheVariants.{Cf, OfQuery}
 use Rattle.settings.specs.declared.mnemonic.Mnemonic.TheVariants.{OfReplying, Sav}
 use Rattle.settings.specs.declared.Switching.{Switching}
@@ -36,7 +35,7 @@ unlike newer older = newer ∷ newer ∷ older ∷ []
 
 -- ---- models
 
-pub model_numbers : map model_of (361 ∷ 362 ∷ 262 ∷ 263 ∷ []) ≡ One Tpg361 ∷ One Tpg362 ∷ One Tpg262 ∷ NoModel ∷ []
+pub model_numbers : map model_of (361 ∷ 362 ∷ 262 ∷ 263 ∷ []) ≡ Some Tpg361 ∷ Some Tpg362 ∷ Some Tpg262 ∷ None ∷ []
 model_numbers = refl
 
 pub model_channels : map channels models ≡ 1 ∷ 2 ∷ 2 ∷ []
@@ -91,7 +90,7 @@ pub other_names : map (λ (model : Model). map name (those (knows model) others)
 other_names = refl
 
 pub words : map (λ (model : Model). map (λ (w : String). recognised model (ascii w)) ("PR1" ∷ "PR2" ∷ "ERR" ∷ "SAV" ∷ "SAW" ∷ [])) models
-    ≡ replicate 3 (Known (OfReplying (OfQuery (Pr 0))) ∷ Known (OfReplying (OfQuery (Pr 1))) ∷ Known (OfReplying (OfQuery Err)) ∷ Known Sav ∷ Unknown ∷ [])
+    ≡ replicate 3 (Some (OfReplying (OfQuery (Pr 0))) ∷ Some (OfReplying (OfQuery (Pr 1))) ∷ Some (OfReplying (OfQuery Err)) ∷ Some Sav ∷ None ∷ [])
 unfolding known same found recognised switching_entry stored_entry
 words = refl
 

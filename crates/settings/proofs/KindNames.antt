@@ -1,4 +1,4 @@
--- The names of the kinds as the code has them: parts of one text, with the place where each begins and its length.
+-- The names of the kinds: parts of one text, by the place where each begins and its length; and a kind that every model has.
 use Prim.Native.Nat.{ℕ, ◌+◌, ◌-◌, ◌≤◌, ◌<◌}
 use mathlib.Core.Path.{◌≡◌, refl}
 use mathlib.Core.List.{List, [], ◌∷◌}
@@ -47,7 +47,7 @@ named model k h =
     alike (λ (i : ℕ). take (length (kind_name model i)) (drop (get_or starts i 0) names)) (kind_name model) 9
     (every_model (λ m. entries (λ (i : ℕ). take (length (kind_name m i)) (drop (get_or starts i 0) names)) 9 0 ≡ entries (kind_name m) 9 0) (refl, (refl, (refl, tt))) model) k h
 
--- as the code cuts it out
+-- as it is cut out of that text
 pub part : (model : Model) (k n : ℕ) → k < 9 → n ≡ length (kind_name model k) → take (get_or starts k 0 + n - get_or starts k 0) (drop (get_or starts k 0) names) ≡ kind_name model k
 part model k n h e = let q : get_or starts k 0 + n - get_or starts k 0 ≡ length (kind_name model k) = omega (arith, e) in rw q (named model k h)
 

@@ -8,3 +8,4 @@ pub mod Sheets
 pub mod Answerable
 pub mod StoredLimits
 pub mod Instances
+pub mod Arrays

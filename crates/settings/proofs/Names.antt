@@ -1,47 +1,62 @@
--- The list of all mnemonics, and the search in it.
-use Prim.Native.Nat.{ℕ, suc, ◌+◌, ◌-◌, ◌≤◌, ◌<◌}
+-- The tests and the search over the lists of settings and mnemonics.
+use Rattle.std.specs.Cmp.Lexicographic.{pointwise}
+use Rattle.std.specs.List.{list_all, filter, find}
+use Rattle.std.specs.Prelude.{nat_eq}
+use Rattle.std.specs.Prelude.{Some, None}
+use Prim.Native.Nat.{ℕ, suc, ◌+◌, ◌<◌}
 use mathlib.Core.Path.{◌≡◌, refl, sym, ap, ◌∙◌}
-use mathlib.Core.List.{List, [], ◌∷◌, map}
-use mathlib.Core.Bool.{Bool, true, false, cond, ◌&&◌, and-true, and-false, and-eq-true_iff}
-use native.Mathlib.Omega.{arith}
+use mathlib.Core.List.{List, [], ◌∷◌}
+use mathlib.Core.Bool.{Bool, true, false, cond, ◌&&◌, and-false, and-eq-true_iff}
 use native.Mathlib.Numerals.{add-one}
-use lib.ListN.{length, get_or, drop, drop_of_length-le, get_or-append, get_or-map}
-use lib.Seq.{drop-cons, get_or-append-add}
+use lib.ListN.{length, get_or, drop}
+use lib.Seq.{drop-cons}
 use lib.Dec.{eqb}
 use borrow.Author.Tests.{eqb-true}
 use Rattle.ground.specs.Members.{every, Each, those}
 use Rattle.ground.proofs.Cases.{never}
 use Rattle.ground.proofs.Members.{every_each, each_those}
 use Rattle.settings.specs.Table.{switching_entry, stored_entry}
-use Rattle.settings.specs.Mnemonics.{settings_held, others, setting, knows, mnemonics, mnemonic_at, known, name, same, found, recognised}
+use Rattle.settings.specs.Mnemonics.{knows, mnemonics, known, name, same, found, recognised}
 use Rattle.settings.specs.declared.model.Model.{Model}
-use Rattle.settings.specs.declared.mnemonic.Setting.TheVariants.{Uni}
 use Rattle.settings.specs.declared.mnemonic.Mnemonic.{Mnemonic}
-use Rattle.settings.specs.declared.mnemonic.Named.TheVariants.{Known, Unknown}
 
--- ---- places in the list of all mnemonics
+-- ---- the words of the library for tests over a list
 
-pub at_setting : (i : ℕ) → i < 22 → setting (get_or settings_held i Uni) ≡ mnemonic_at i
-at_setting i h = sym (get_or-append (map setting settings_held) others (setting Uni) i h ∙ get_or-map setting settings_held i Uni)
+module _ {A : Type 0} (p : A → Bool) where
+  pub all_every : (xs : List A) → list_all p xs ≡ every p xs
+  unfolding every
+  all_every [] = refl
+  all_every (x ∷ xs) = rw (all_every xs)
 
-pub at_other : (i : ℕ) → 22 ≤ i → get_or others (i - 22) (setting Uni) ≡ mnemonic_at i
-at_other i h =
-    let q : 22 + (i - 22) ≡ i = omega (arith, h) in
-    sym (get_or-append-add (map setting settings_held) others (i - 22) (setting Uni)) ∙ ap (λ (k : ℕ). get_or mnemonics k (setting Uni)) q
+  pub filter_those : (xs : List A) → filter p xs ≡ those p xs
+  filter_those [] = refl
+  filter_those (x ∷ xs) = rw (filter_those xs)
 
 -- ---- the search
 
-pub three_same : (n : List ℕ) (a b c : ℕ) → length n ≡ 3 → eqb (get_or n 0 0) a && (eqb (get_or n 1 0) b && eqb (get_or n 2 0) c) ≡ same n (a ∷ b ∷ c ∷ [])
+pub same_pointwise : (xs ys : List ℕ) → pointwise nat_eq xs ys ≡ same xs ys
 unfolding same
-three_same [] a b c h = absurd (omega arith)
-three_same (x ∷ []) a b c h = absurd (omega arith)
-three_same (x ∷ y ∷ []) a b c h = absurd (omega arith)
-three_same (x ∷ y ∷ z ∷ []) a b c h = ap (λ (t : Bool). eqb x a && (eqb y b && t)) (sym (and-true (eqb z c)))
-three_same (x ∷ y ∷ z ∷ w ∷ n) a b c h = absurd (omega arith)
+same_pointwise [] [] = refl
+same_pointwise [] (y ∷ ys) = refl
+same_pointwise (x ∷ xs) [] = refl
+same_pointwise (x ∷ xs) (y ∷ ys) = rw (same_pointwise xs ys)
 
--- among those of a list of which a test holds, from the place i on
+-- the first of a list that passes two tests is the first of those that pass the second
+pub find_found : (w : List ℕ) (p : Mnemonic → Bool) (ms : List Mnemonic) → find (λ m. same (name m) w && p m) ms ≡ found w (those p ms)
+unfolding found
+find_found w p [] = refl
+find_found w p (m ∷ ms) = by (same (name m) w) (p m) refl (find_found w p ms)
+  where
+    by : (s t : Bool) → same (name m) w ≡ s → find (λ x. same (name x) w && p x) ms ≡ found w (those p ms)
+        → cond (s && t) (Some m) (find (λ x. same (name x) w && p x) ms) ≡ found w (cond t (m ∷ those p ms) (those p ms))
+    by true true q e = rw q
+    by true false q e = e
+    by false true q e = rw q e
+    by false false q e = e
+
+-- the same by places: among those of a list of which a test holds, from the place i on
 module _ (w : List ℕ) (p : Mnemonic → Bool) (ms : List Mnemonic) (i : ℕ) (d : Mnemonic) where
-  pub found_hit : i < length ms → same (name (get_or ms i d)) w && p (get_or ms i d) ≡ true → found w (those p (drop i ms)) ≡ Known (get_or ms i d)
+  pub found_hit : i < length ms → same (name (get_or ms i d)) w && p (get_or ms i d) ≡ true → found w (those p (drop i ms)) ≡ Some (get_or ms i d)
   unfolding found
   found_hit h e =
       let b = (and-eq-true_iff (same (name (get_or ms i d)) w) (p (get_or ms i d))).0 e in
@@ -58,10 +73,6 @@ module _ (w : List ℕ) (p : Mnemonic → Bool) (ms : List Mnemonic) (i : ℕ) (
       by false true q e = rw q
       by false false q e = refl
 
-  pub found_end : length ms ≤ i → found w (those p (drop i ms)) ≡ Unknown
-  unfolding found
-  found_end h = rw (drop_of_length-le ms h)
-
 -- ---- a word of another length names nothing
 
 unlike : (s w : List ℕ) → (length s ≡ length w → ⊥) → same s w ≡ false
@@ -71,13 +82,13 @@ unlike [] (b ∷ w) h = refl
 unlike (a ∷ s) [] h = refl
 unlike (a ∷ s) (b ∷ w) h = rw (unlike s w (λ e. h (ap suc e))) (and-false (eqb a b))
 
-nothing_found : (ms : List Mnemonic) (w : List ℕ) → Each (λ m. eqb (length (name m)) 3 ≡ true) ms → (length w ≡ 3 → ⊥) → found w ms ≡ Unknown
+nothing_found : (ms : List Mnemonic) (w : List ℕ) → Each (λ m. eqb (length (name m)) 3 ≡ true) ms → (length w ≡ 3 → ⊥) → found w ms ≡ None
 unfolding found
 nothing_found [] w e h = refl
 nothing_found (m ∷ ms) w e h =
     rw (unlike (name m) w (λ q. h (sym q ∙ eqb-true (length (name m)) 3 e.0))) (nothing_found ms w e.1 h)
 
-pub not_three : (model : Model) (w : List ℕ) → (length w ≡ 3 → ⊥) → recognised model w ≡ Unknown
+pub not_three : (model : Model) (w : List ℕ) → (length w ≡ 3 → ⊥) → recognised model w ≡ None
 unfolding recognised known switching_entry stored_entry every
 not_three model w h =
     nothing_found (known model) w

@@ -1,20 +1,20 @@
 -- A row beside its default, place by place.
-use Prim.Native.Nat.{ℕ, zero, suc, ◌≤◌, ◌<◌}
+use Rattle.std.specs.Prelude.{Some, None}
+use Prim.Native.Nat.{ℕ, zero, suc, ◌<◌}
 use mathlib.Core.Path.{◌≡◌, refl, sym, ap, ◌∙◌}
 use mathlib.Core.List.{[], ◌∷◌}
-use mathlib.Core.Bool.{Bool, true, cond, ◌&&◌, and-true, and-false, and-eq-true_iff}
-use mathlib.Core.Logic.{⊎_elim}
+use mathlib.Core.Bool.{Bool, true, false, cond, ◌&&◌, and-true, and_assoc, and-eq-true_iff}
 use native.Mathlib.Omega.{arith}
-use borrow.Author.Tests.{eqb-true, lt-ltb, le-leb, lt-leb, eq-eqb, ne_eqb}
+use borrow.Author.Tests.{eqb-true, lt-ltb}
 use lib.ListN.{get_or}
-use lib.Dec.{leb, ltb, eqb}
+use lib.Dec.{ltb, eqb}
 use lib.IntN.{ℤ, pos, negsuc}
-use lib.Signed.{le_z}
 use Rattle.ground.proofs.Ranges.{upto_each}
-use Rattle.ground.proofs.Cases.{below, never, eqb_same}
+use Rattle.ground.proofs.Cases.{never}
 use Rattle.numbers.specs.declared.threshold.Threshold.{Threshold}
 use Rattle.settings.specs.Rows.{plain, listed}
-use Rattle.settings.specs.Limits.{same_number, same_cell, fits, cells_fit, row_fits}
+use Rattle.settings.specs.Table.{kind_at}
+use Rattle.settings.specs.Limits.{same_number, same_cell, fits, place_fits, cells_fit, row_fits}
 use Rattle.settings.specs.declared.table.Kind.{Kind}
 use Rattle.settings.specs.declared.table.Kind.TheVariants.{OfWhole, OfFactor, OfThreshold}
 use Rattle.settings.specs.declared.table.Fields.{Fields}
@@ -59,12 +59,12 @@ rows_same r q e =
     λ i. record { first = a i; second = b i; third = c i }
 
 -- the kind of a field, where there is one
-abbrev pub kind_at : Fields → ℕ → Kind
-kind_at f i = get_or (f.first ∷ f.others ∷ f.others ∷ []) i OfThreshold
+abbrev pub kind_there : Fields → ℕ → Kind
+kind_there f i = get_or (f.first ∷ f.others ∷ f.others ∷ []) i OfThreshold
 
 -- at place i the row fits its field, or is as d where there is none
 abbrev pub placed : Fields → Row → Row → ℕ → Bool
-placed f r d i = cond (ltb i f.count) (fits (kind_at f i) (cell r i)) (same_cell (cell r i) (cell d i))
+placed f r d i = cond (ltb i f.count) (fits (kind_there f i) (cell r i)) (same_cell (cell r i) (cell d i))
 
 -- the recursion over kinds and cells is the three places
 pub row_placed : (f : Fields) (r d : Row) → placed f r d 0 && (placed f r d 1 && placed f r d 2) ≡ row_fits f r d
@@ -80,24 +80,21 @@ row_placed f r d = by f.count
         let k = suc (suc (suc n)) in
         rw (lt-ltb 0 k (omega arith), lt-ltb 1 k (omega arith), lt-ltb 2 k (omega arith), and-true (fits f.others r.third))
 
+-- as the code asks it: by the kind of a field, if it is there
+where_field : (t : Bool) (k : Kind) (c d : Threshold) → place_fits (cond t (Some k) None) c d ≡ cond t (fits k c) (same_cell c d)
+where_field true k c d = refl
+where_field false k c d = refl
+
+pub row_fields : (f : Fields) (r d : Row)
+    → (place_fits (kind_at f 0) r.first d.first && place_fits (kind_at f 1) r.second d.second) && place_fits (kind_at f 2) r.third d.third ≡ row_fits f r d
+unfolding kind_at
+row_fields f r d =
+    rw (where_field (ltb 0 f.count) f.first r.first d.first, where_field (ltb 1 f.count) f.others r.second d.second, where_field (ltb 2 f.count) f.others r.third d.third, and_assoc)
+    (row_placed f r d)
+
 module _ (f : Fields) (r d : Row) where
   pub row_places : row_fits f r d ≡ true → (i : ℕ) → i < 3 → placed f r d i ≡ true
   row_places h i l = upto_each 2 (placed f r d) (row_placed f r d ∙ h) i (omega arith)
 
   pub places_row : ((i : ℕ) → i < 3 → placed f r d i ≡ true) → row_fits f r d ≡ true
   places_row h = sym (row_placed f r d) ∙ rw (h 0 (omega arith), h 1 (omega arith)) (h 2 (omega arith))
-
--- ---- how the code tests two numbers
-
-both_ways : (a b : ℕ) → leb a b && leb b a ≡ eqb a b
-both_ways a b =
-    ⊎_elim (λ (l : a < b). rw (lt-leb b a l, and-false (leb a b)) (sym (ne_eqb a b (λ e. omega arith))))
-    (λ (g : b ≤ a). ⊎_elim (λ (l : b < a). rw (lt-leb a b l) (sym (ne_eqb a b (λ e. omega arith))))
-    (λ (h : a ≤ b). rw (le-leb a b h, le-leb b a g) (sym (eq-eqb a b (omega arith)))) (below b a)) (below a b)
-
--- no more and no less
-pub same_order : (e x : ℤ) → le_z e x && le_z x e ≡ same_number e x
-same_order (pos a) (pos b) = both_ways a b
-same_order (pos a) (negsuc b) = refl
-same_order (negsuc a) (pos b) = refl
-same_order (negsuc a) (negsuc b) = both_ways b a ∙ eqb_same b a a b sym sym

@@ -1,19 +1,19 @@
 -- The sheet: it has every setting that the model takes once, and its cells decide settings that are within their limits.
-use Prim.Native.Nat.{ℕ, zero, suc, ◌+◌, ◌-◌, ◌*◌, ◌≤◌, ◌<◌}
+use Rattle.ground.proofs.Cases.{never}
+use native.Mathlib.Numerals.{add-one}
+use Prim.Native.Nat.{ℕ, zero, suc, ◌+◌, ◌*◌, ◌≤◌, ◌<◌, ◌-◌}
 use mathlib.Core.Path.{◌≡◌, refl, sym, ap, ap₂, ◌∙◌, subst}
 use mathlib.Core.List.{List, [], ◌∷◌, ◌++◌, map}
 use mathlib.Core.Bool.{Bool, true, false, cond, not, ◌&&◌, and-eq-true_iff}
 use mathlib.Core.Logic.{◌≢◌, ◌⊎◌, inl, inr, ⊎_elim, ◌↔◌}
 use mathlib.Mathlib.Data.Bool.Basic.{dichotomy}
 use native.Mathlib.Omega.{arith}
-use native.Mathlib.Numerals.{add-one}
 use borrow.Author.Tests.{ltb-true, ltb-false, le-ltb, eqb-true, eqb-false, not-true}
 use lib.ListN.{length, get_or, take, drop, drop_of_length-le}
-use lib.Seq.{drop-cons, get_or-take}
+use lib.Seq.{get_or-take, drop-cons}
 use lib.Dec.{ltb, eqb}
 use Rattle.ground.specs.Members.{every, Each, those}
 use Rattle.ground.proofs.Tables.{alike}
-use Rattle.ground.proofs.Cases.{never}
 use Rattle.ground.proofs.Members.{each_map, each_both, each_all, each_take, each_drop, each_append, each_at, every_each, each_every, each_those, those_each, each_taken, Pairwise, pairwise, pairwise_by, pairwise_those}
 use Rattle.numbers.specs.declared.threshold.Threshold.{Threshold}
 use Rattle.settings.specs.Models.{by_unit}
@@ -30,7 +30,7 @@ use Rattle.settings.specs.declared.rows.Row.{Row}
 use Rattle.settings.specs.declared.Settings.{Settings}
 use Rattle.settings.proofs.Every.{every_model}
 use Rattle.settings.proofs.Tabled.{few, count_kinds}
-use Rattle.settings.proofs.Places.{same_cell_lem, cell, rows_same, kind_at, row_places}
+use Rattle.settings.proofs.Places.{same_cell_lem, cell, rows_same, kind_there, row_places}
 use Rattle.settings.proofs.Storing.{Holding, rows_decide}
 use Rattle.settings.proofs.Storing.Holding.{uni, cal, sp, kept}
 
@@ -204,7 +204,7 @@ module _ (model : Model) (a b : Settings) (wa : within model a ≡ true) (wb : w
       let d = (setting_entry x).default model in
       let n = count_kinds f (few model (setting x)) in
       rows_same (row a x) (row b x) (λ i l.
-      same_placed (ltb i f.count) (kind_at f i) (cell (row a x) i) (cell (row b x) i) (cell d i)
+      same_placed (ltb i f.count) (kind_there f i) (cell (row a x) i) (cell (row b x) i) (cell d i)
       (row_places f (row a x) d (within_rows model a wa x h) i l)
       (row_places f (row b x) d (within_rows model b wb x h) i l)
       (λ t. taken (field_count model x) i (row a x) (row b x) e (rw n (ltb-true i f.count t))))

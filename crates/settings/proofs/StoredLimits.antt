@@ -29,7 +29,7 @@ use Rattle.settings.specs.declared.rows.Row.{Row}
 use Rattle.settings.specs.declared.Settings.{Settings}
 use Rattle.settings.proofs.Every.{tested, channels_few}
 use Rattle.settings.proofs.Tabled.{switching_there, numeric, Numbers, uni_numbers, uni_count, cal_numbers, stored_numbers, few, count_kinds}
-use Rattle.settings.proofs.Places.{same_cell_lem, number_plain, cell, kind_at, placed, row_places, places_row}
+use Rattle.settings.proofs.Places.{same_cell_lem, number_plain, cell, kind_there, placed, row_places, places_row}
 use Rattle.settings.proofs.Storing.{Holding, canon, mixed_is, stored_row, stored_others, unit_others, factor_row, factor_others}
 use Rattle.settings.proofs.Storing.Holding.{uni, cal, sp, kept}
 use Rattle.settings.proofs.Sheets.{same_or_apart, within_rows, rows_within}
@@ -120,7 +120,7 @@ mixed_fits : (f : Fields) (r q d : Row) → Fitting f r → row_fits f q d ≡ t
 mixed_fits f r q d g w =
     places_row f (mixed f.count r q) d (λ i l.
     rw (mixed_cell f.count i r q l)
-    (mixed_placed (ltb i f.count) (kind_at f i) (cell r i) (cell q i) (cell (pair_row 0 0) i) (cell d i)
+    (mixed_placed (ltb i f.count) (kind_there f i) (cell r i) (cell q i) (cell (pair_row 0 0) i) (cell d i)
     (row_places f r (pair_row 0 0) g i l) (row_places f q d w i l)))
 
 -- an accepted line keeps the limits
@@ -140,14 +140,14 @@ stored_within model b r {x} sh h w f = changed_within model (stored model b (set
         (mixed_fits ((setting_entry x).fields model) r (row b x) ((setting_entry x).default model) f (within_rows model b w x h))
 
 -- one cell changed, within its limits
-set_fits : (f : Fields) (k : ℕ) (c : Threshold) (q p d : Row) → listed p ≡ set (listed q) k c → k < f.count → k < 3 → fits (kind_at f k) c ≡ true
+set_fits : (f : Fields) (k : ℕ) (c : Threshold) (q p d : Row) → listed p ≡ set (listed q) k c → k < f.count → k < 3 → fits (kind_there f k) c ≡ true
     → row_fits f q d ≡ true → row_fits f p d ≡ true
 set_fits f k c q p d e h g t w = places_row f p d at
   where
-    there : (i : ℕ) (u : Threshold) → get_or (set (listed q) k c) i (plain 0) ≡ u → cond (ltb i f.count) (fits (kind_at f i) u) (same_cell u (cell d i)) ≡ true
+    there : (i : ℕ) (u : Threshold) → get_or (set (listed q) k c) i (plain 0) ≡ u → cond (ltb i f.count) (fits (kind_there f i) u) (same_cell u (cell d i)) ≡ true
         → placed f p d i ≡ true
     there i u z =
-        subst (λ v. cond (ltb i f.count) (fits (kind_at f i) v) (same_cell v (cell d i)) ≡ true) (sym (ap (λ (m : List Threshold). get_or m i (plain 0)) e ∙ z))
+        subst (λ v. cond (ltb i f.count) (fits (kind_there f i) v) (same_cell v (cell d i)) ≡ true) (sym (ap (λ (m : List Threshold). get_or m i (plain 0)) e ∙ z))
 
     same : (i : ℕ) → i < 3 → i ≡ k → placed f p d i ≡ true
     same i l z = there i c (rw (z, get_or-set_same (listed q) k c (plain 0) g)) (rw (z, lt-ltb k f.count h) t)
@@ -159,7 +159,7 @@ set_fits f k c q p d e h g t w = places_row f p d at
         (λ (t : eqb i k ≡ true). same i l (eqb-true i k t)) (dichotomy (eqb i k))
 
 -- CAL's fields are all factors
-factor_kind : (model : Model) (k : ℕ) → k < 2 → kind_at ((setting_entry Cal).fields model) k ≡ factor model
+factor_kind : (model : Model) (k : ℕ) → k < 2 → kind_there ((setting_entry Cal).fields model) k ≡ factor model
 factor_kind model zero h = refl
 factor_kind model (suc zero) h = refl
 factor_kind model (suc (suc k)) h = absurd (omega arith)

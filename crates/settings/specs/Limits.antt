@@ -1,6 +1,6 @@
 -- The limits of settings on a model (01, "Readings, switching, streaming": "every value above in range, on a 361
 -- channel-2 cells at their defaults and no channel-2 choice"; 02, W-201: "Cells a model lacks stay at their default").
-use Rattle.std.specs.Prelude.{◌≡◌, List, [], ◌∷◌, Bool, true, false, ◌&&◌, length, eqb, ℤ, pos, negsuc}
+use Rattle.std.specs.Prelude.{◌≡◌, Option, Some, None, List, [], ◌∷◌, Bool, true, false, ◌&&◌, length, eqb, ℤ, pos, negsuc}
 use Rattle.ground.specs.Members.{every}
 use Rattle.ground.specs.Ranges.{in_range}
 use Rattle.numbers.specs.Numbers.{within_stops}
@@ -37,6 +37,11 @@ abbrev pub fits : Kind → Threshold → Bool
 fits (OfWhole l) c = inside l c
 fits (OfFactor l) c = inside l c
 fits OfThreshold c = within_stops c
+
+-- a cell beside the field that is there for it, if one is, and its default
+abbrev pub place_fits : Option Kind → Threshold → Threshold → Bool
+place_fits (Some k) c d = fits k c
+place_fits None c d = same_cell c d
 
 -- "every value above in range": a cell fits its field; "channel-2 cells at their defaults": a cell without a field is at its default
 unfoldable pub cells_fit : List Kind → List Threshold → List Threshold → Bool

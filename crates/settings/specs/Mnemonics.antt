@@ -1,5 +1,5 @@
 -- The mnemonics, their names and the sheet (01, "What the box answers to"; 02, W-201).
-use Rattle.std.specs.Prelude.{ℕ, List, [], ◌∷◌, ◌++◌, map, Bool, true, false, cond, not, ◌&&◌, get_or, eqb, ltb}
+use Rattle.std.specs.Prelude.{ℕ, List, [], ◌∷◌, ◌++◌, map, Bool, true, false, cond, not, ◌&&◌, get_or, eqb, ltb, Option, Some, None}
 use Rattle.ground.specs.Members.{those}
 use Rattle.text.specs.Text.{ascii}
 use Rattle.settings.specs.Models.{is_older, channels}
@@ -10,8 +10,6 @@ use Rattle.settings.specs.declared.mnemonic.Setting.TheVariants.{Uni, Cal, Sp, S
 use Rattle.settings.specs.declared.mnemonic.Query.TheVariants.{Sps, Pr, Prx, Tid, Ayt, Pnr, Err}
 use Rattle.settings.specs.declared.mnemonic.Replying.{Replying}
 use Rattle.settings.specs.declared.mnemonic.Replying.TheVariants.{OfSetting, Cf, OfQuery}
-use Rattle.settings.specs.declared.mnemonic.Named.{Named}
-use Rattle.settings.specs.declared.mnemonic.Named.TheVariants.{Known, Unknown}
 use Rattle.settings.specs.declared.mnemonic.Mnemonic.{Mnemonic}
 use Rattle.settings.specs.declared.mnemonic.Mnemonic.TheVariants.{OfReplying, Com, Sav}
 
@@ -79,12 +77,12 @@ same (x ∷ xs) [] = false
 same (x ∷ xs) (y ∷ ys) = eqb x y && same xs ys
 
 -- the first mnemonic of the list that a word names
-unfoldable pub found : List ℕ → List Mnemonic → Named
-found word [] = Unknown
-found word (m ∷ ms) = cond (same (name m) word) (Known m) (found word ms)
+unfoldable pub found : List ℕ → List Mnemonic → Option Mnemonic
+found word [] = None
+found word (m ∷ ms) = cond (same (name m) word) (Some m) (found word ms)
 
 -- "Every other mnemonic is unknown"
-unfoldable pub recognised : Model → List ℕ → Named
+unfoldable pub recognised : Model → List ℕ → Option Mnemonic
 recognised model word = found word (known model)
 
 -- "PR2 or CF2" are about channel 1, counted from 0

@@ -1,15 +1,13 @@
 -- The models and what they start with (01, "What the box answers to" and "Readings, switching, streaming"; 02, W-201).
-use Rattle.std.specs.Prelude.{ℕ, ◌+◌, List, [], Bool, true, false, cond, ◌&&◌, ◌||◌, eqb, leb, ltb}
+use Rattle.std.specs.Prelude.{ℕ, ◌+◌, List, [], Bool, true, false, cond, ◌&&◌, ◌||◌, eqb, leb, ltb, Option, Some, None}
 use Rattle.std.specs.Bool.{beq}
 use Rattle.text.specs.Text.{ascii}
 use Rattle.settings.specs.declared.model.Model.{Model}
 use Rattle.settings.specs.declared.model.Model.TheVariants.{Tpg361, Tpg362, Tpg262}
-use Rattle.settings.specs.declared.model.Numbered.{Numbered}
-use Rattle.settings.specs.declared.model.Numbered.TheVariants.{One, NoModel}
 
 -- "model not 361 or 362", and W-201: "answer 2 now allows 262": a model by its number
-abbrev pub model_of : ℕ → Numbered
-model_of n = cond (eqb n 361) (One Tpg361) (cond (eqb n 362) (One Tpg362) (cond (eqb n 262) (One Tpg262) NoModel))
+abbrev pub model_of : ℕ → Option Model
+model_of n = cond (eqb n 361) (Some Tpg361) (cond (eqb n 362) (Some Tpg362) (cond (eqb n 262) (Some Tpg262) None))
 
 -- W-201: "the unit of source document 001"; the tables have a column for it and one for the units of 01
 abbrev pub is_older : Model → Bool

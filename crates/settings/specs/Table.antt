@@ -1,6 +1,6 @@
 -- The table of 01, "Settings", with the column of 02, W-201, row for row, and the mnemonics beside it: the name of each, its fields and
 -- its default; and storing.
-use Rattle.std.specs.Prelude.{ℕ, ◌+◌, ◌-◌, List, [], ◌∷◌, ◌++◌, map, cond, length, get_or, set, take, replicate, ltb, negsuc}
+use Rattle.std.specs.Prelude.{Option, Some, None, eqb, ℕ, ◌+◌, ◌-◌, List, [], ◌∷◌, ◌++◌, map, cond, length, get_or, set, take, replicate, ltb, negsuc}
 use Rattle.text.specs.Text.{ascii}
 use Rattle.numbers.specs.declared.threshold.Threshold.{Threshold}
 use Rattle.settings.specs.Models.{by_unit, channels, first_following}
@@ -40,6 +40,10 @@ factor model = let most : ℕ = by_unit 10000 9990 model in OfFactor (record { l
 -- the kinds of the fields, one after the other
 abbrev pub kinds_of : Fields → List Kind
 kinds_of f = take f.count (f.first ∷ f.others ∷ f.others ∷ [])
+
+-- the kind of a field by its place, counted from 0, if there are so many
+unfoldable pub kind_at : Fields → ℕ → Option Kind
+kind_at f place = cond (ltb place f.count) (Some (cond (eqb place 0) f.first f.others)) None
 
 -- ---- rows
 

@@ -1,21 +1,10 @@
 // The kinds of gauges that a model knows, by name.
-ghost use Rattle.std.specs.Prelude.{◌≡◌, length};
-ghost use Rattle.text.specs.Page.{page, puts};
+ghost use Rattle.std.specs.Prelude.{◌≡◌};
+ghost use Rattle.text.specs.Writing.{Wrote};
 ghost use Rattle.settings.specs.Kinds.{gauge_kinds, kind_name};
 
 use crate::model::Model;
-use text::append;
-
-// The longest name of each kind on any model: a shorter one is its front.
-const NAMES: [u8; 41] = *b"TPR/PCRIKR9PKRPBRIMRCMR/APRnoSEnnoidIKR11";
-
-// Where the name of each kind begins in NAMES.
-const STARTS: [usize; 9] = [0, 7, 11, 14, 17, 20, 27, 32, 36];
-
-// How long it is on a 361 or 362, and on a 262; 0 where the model lacks the kind.
-const LENGTHS: [usize; 9] = [7, 3, 3, 3, 3, 7, 5, 4, 0];
-
-const OLDER_LENGTHS: [usize; 9] = [3, 4, 3, 3, 3, 3, 5, 4, 5];
+use text::writer::Writer;
 
 impl Model {
     // How many kinds there are, counted from 0.
@@ -25,30 +14,31 @@ impl Model {
         if self.is_older() { 9 } else { 8 }
     }
 
-    fn name_length(self, kind: u8) -> usize
-        ensures { result ≡ length (kind_name self kind) }
+    // The name of a kind; a number that is no kind has none.
+    fn kind_name(self, kind: u8) -> &'static [u8]
+        ensures { result.now ≡ kind_name self kind }
     {
-        let k = kind as usize;
-        if k < 9 {
-            if self.is_older() {
-                return OLDER_LENGTHS[k];
-            }
-            return LENGTHS[k];
+        match (kind, self.is_older()) {
+            (0, false) => b"TPR/PCR",
+            (0, true) => b"TPR",
+            (1, false) => b"IKR",
+            (1, true) => b"IKR9",
+            (2, _) => b"PKR",
+            (3, _) => b"PBR",
+            (4, _) => b"IMR",
+            (5, false) => b"CMR/APR",
+            (5, true) => b"CMR",
+            (6, _) => b"noSEn",
+            (7, _) => b"noid",
+            (8, true) => b"IKR11",
+            _ => b"",
         }
-        0
     }
 
-    // The name of a kind put into out from `at` on; a number that is no kind has none.
-    pub fn write_kind(self, out: &mut [u8], at: usize, kind: u8) -> usize
-        ensures { page out.new result ≡ puts (page out.old at) (kind_name self kind) }
+    // The name of a kind as TID tells it.
+    pub fn write_kind(self, out: &mut Writer, kind: u8)
+        ensures { Wrote out.old out.new (kind_name self kind) }
     {
-        let k = kind as usize;
-        if k < 9 {
-            let names = NAMES;
-            let start = STARTS[k];
-            let n = self.name_length(kind);
-            return append(out, at, &names[start..start + n]);
-        }
-        at
+        out.append(self.kind_name(kind));
     }
 }

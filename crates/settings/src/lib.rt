@@ -28,6 +28,7 @@ pub struct Pair {
 // The settings of a box.
 #[derive(Clone, Copy)]
 pub struct Settings {
+    // a number and no enum: `within` speaks of settings with one that is no unit
     pub unit: u32,
     // in thousandths
     pub factors: [u32; 2],

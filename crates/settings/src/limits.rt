@@ -1,9 +1,9 @@
 // The limits of settings on a model.
-ghost use Rattle.std.specs.Prelude.{◌≡◌, cond};
-ghost use Rattle.settings.specs.Limits.{same_cell, inside, fits, row_fits, row_within, within};
+ghost use Rattle.std.specs.Prelude.{◌≡◌};
+ghost use Rattle.settings.specs.Limits.{inside, fits, place_fits, row_fits, row_within, within};
 
 use crate::Settings;
-use crate::mnemonic::{Setting, held_at};
+use crate::mnemonic::{HELD, Setting};
 use crate::model::Model;
 use crate::rows::Row;
 use crate::table::{Fields, Kind, Limits};
@@ -12,10 +12,7 @@ use numbers::threshold::Threshold;
 fn is_inside(l: Limits, cell: Threshold) -> bool
     ensures { result ≡ inside l cell }
 {
-    let n = cell.mantissa;
-    let e = cell.exponent;
-    // as numbers: `==` would compare the bits
-    ((e <= 0) & (0 <= e)) & ((l.least <= n) & (n <= l.most))
+    cell.exponent == 0 && (l.least..=l.most).contains(&cell.mantissa)
 }
 
 // Whether a field of this kind may hold the cell.
@@ -23,65 +20,42 @@ fn fits(kind: Kind, cell: Threshold) -> bool
     ensures { result ≡ fits kind cell }
 {
     match kind {
-        Kind::OfWhole(l) => is_inside(l, cell),
-        Kind::OfFactor(l) => is_inside(l, cell),
+        Kind::OfWhole(l) | Kind::OfFactor(l) => is_inside(l, cell),
         Kind::OfThreshold => cell.is_within(),
     }
 }
 
-fn is_same(cell: Threshold, default: Threshold) -> bool
-    ensures { result ≡ same_cell cell default }
-{
-    let n = cell.mantissa;
-    let e = cell.exponent;
-    let m = default.mantissa;
-    let d = default.exponent;
-    (n == m) & ((e <= d) & (d <= e))
-}
-
 // A cell fits its field; where the model has no field for it, it is at its default.
-fn place_is_within(has: bool, kind: Kind, cell: Threshold, default: Threshold) -> bool
-    ensures { result ≡ cond has (fits kind cell) (same_cell cell default) }
+fn place_is_within(field: Option<Kind>, cell: Threshold, default: Threshold) -> bool
+    ensures { result ≡ place_fits field cell default }
 {
-    if has {
-        return fits(kind, cell);
+    match field {
+        Some(kind) => fits(kind, cell),
+        None => cell == default,
     }
-    is_same(cell, default)
 }
 
 // So for the cells of a row.
 fn row_is_within(f: Fields, r: Row, default: Row) -> bool
     ensures { result ≡ row_fits f r default }
 {
-    let n = f.count;
-    let k = f.first;
-    let l = f.others;
-    let first = place_is_within(0 < n, k, r.first, default.first);
-    let second = place_is_within(1 < n, l, r.second, default.second);
-    let third = place_is_within(2 < n, l, r.third, default.third);
-    first & (second & third)
+    place_is_within(f.kind(0), r.first, default.first)
+        && place_is_within(f.kind(1), r.second, default.second)
+        && place_is_within(f.kind(2), r.third, default.third)
 }
 
 impl Settings {
     fn holds(self, model: Model, x: Setting) -> bool
         ensures { result ≡ row_within model self x }
     {
-        let e = model.setting_entry(x);
-        let fields = e.fields;
-        let default = e.default;
-        row_is_within(fields, self.row(x), default)
+        let entry = model.setting_entry(x);
+        row_is_within(entry.fields, self.row(x), entry.default)
     }
 
     // Whether a box of the model may be set so.
     pub fn is_within(self, model: Model) -> bool
         ensures { result ≡ within model self }
     {
-        let mut all = true;
-        let mut i: usize = 0;
-        while i < 22 {
-            all = all & self.holds(model, held_at(i));
-            i += 1;
-        }
-        all
+        HELD.iter().all(|x| self.holds(model, *x))
     }
 }

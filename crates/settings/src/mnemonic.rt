@@ -1,14 +1,12 @@
 // The mnemonics: families that carry a number where there are several of a kind.
-ghost use Rattle.std.specs.Prelude.{◌≡◌, [], ◌∷◌, cond, ◌&&◌, ◌<◌, ◌-◌, length, get_or};
-ghost use Rattle.settings.specs.Mnemonics.{settings_held, takes, sheet, sheet_at, knows, mnemonic_at, name, same, recognised, channel_of, is_there, answers, is_err};
-ghost use Rattle.settings.specs.declared.mnemonic.Setting.TheVariants.{Uni};
-ghost use Rattle.settings.specs.declared.mnemonic.Replying.TheVariants.{OfQuery};
-ghost use Rattle.settings.specs.declared.mnemonic.Mnemonic.TheVariants.{OfReplying};
+// The number is no enum: `entry` and `row` promise what one that is none of its family has (`nothing`, `get_or`).
+ghost use Rattle.std.specs.Prelude.{◌≡◌, ◌&&◌, length};
+ghost use Rattle.settings.specs.Mnemonics.{takes, sheet, sheet_at, knows, name, same, recognised, channel_of, is_there, answers, is_err};
 
 use crate::model::Model;
 
 // Those of the sheets, each of which holds settings.
-#[derive(Clone, Copy)]
+#[derive(Clone, Copy, Debug, PartialEq, Eq)]
 pub enum Setting {
     Uni,
     Cal,
@@ -19,7 +17,7 @@ pub enum Setting {
 }
 
 // Those that take no field; PR1 and PR2 from 0 on.
-#[derive(Clone, Copy)]
+#[derive(Clone, Copy, Debug, PartialEq, Eq)]
 pub enum Query {
     Sps,
     Pr(u8),
@@ -31,7 +29,7 @@ pub enum Query {
 }
 
 // Those that have a reply.
-#[derive(Clone, Copy)]
+#[derive(Clone, Copy, Debug, PartialEq, Eq)]
 pub enum Replying {
     OfSetting(Setting),
     // CF1 and CF2 from 0 on
@@ -39,14 +37,14 @@ pub enum Replying {
     OfQuery(Query),
 }
 
-#[derive(Clone, Copy)]
+#[derive(Clone, Copy, Debug, PartialEq, Eq)]
 pub enum Mnemonic {
     OfReplying(Replying),
     Com,
     Sav,
 }
 
-const HELD: [Setting; 22] = [
+pub(crate) const HELD: &[Setting] = &[
     Setting::Uni,
     Setting::Stored(0),
     Setting::Cal,
@@ -71,7 +69,7 @@ const HELD: [Setting; 22] = [
     Setting::Stored(15),
 ];
 
-const OTHERS: [Mnemonic; 12] = [
+const OTHERS: &[Mnemonic] = &[
     Mnemonic::OfReplying(Replying::Cf(0)),
     Mnemonic::OfReplying(Replying::Cf(1)),
     Mnemonic::OfReplying(Replying::OfQuery(Query::Sps)),
@@ -86,57 +84,9 @@ const OTHERS: [Mnemonic; 12] = [
     Mnemonic::Sav,
 ];
 
-// What three letters name.
-#[derive(Clone, Copy)]
-pub enum Named {
-    Known(Mnemonic),
-    Unknown,
-}
-
-// Whether three letters are a name.
-fn spells(name: [u8; 3], a: u8, b: u8, c: u8) -> bool
-    ensures { result ≡ same name (a ∷ b ∷ c ∷ []) }
-{
-    let x = name[0] == a;
-    let y = name[1] == b;
-    let z = name[2] == c;
-    x & (y & z)
-}
-
-// How many lines of the sheet are still to pass behind a setting.
-fn still_left(left: usize, taken: bool) -> usize
-    ensures { result ≡ cond taken (left - 1) left }
-{
-    if taken & (0 < left) {
-        return left - 1;
-    }
-    left
-}
-
-// A setting that is held, by its place.
-pub(crate) fn held_at(i: usize) -> Setting
-    requires { i < 22 }
-    ensures { result ≡ get_or settings_held i Uni }
-{
-    HELD[i]
-}
-
-// How many mnemonics there are on all models together.
-const ALL: usize = 34;
-
-// All of them: the settings, and behind them the others.
-fn mnemonic_at(i: usize) -> Mnemonic
-    requires { i < 34 }
-    ensures { result ≡ mnemonic_at i }
-{
-    if i < 22 {
-        return Mnemonic::OfReplying(Replying::OfSetting(held_at(i)));
-    }
-    OTHERS[i - 22]
-}
-
 impl Model {
     // How many lines a sheet of settings has.
+    #[tactic(auto, using(crate::proofs::Sheets::sheet_counts))]
     pub fn sheet_length(self) -> usize
         ensures { result ≡ length (sheet self) }
     {
@@ -147,82 +97,47 @@ impl Model {
     fn takes(self, x: Setting) -> bool
         ensures { result ≡ takes self x }
     {
-        let e = self.setting_entry(x);
-        let f = e.fields;
-        0 < f.count
+        0 < self.setting_entry(x).fields.count
     }
 
     // The setting on a line of the sheet; past the last line it is the first.
     pub fn sheet_at(self, i: usize) -> Setting
         ensures { result ≡ sheet_at self i }
     {
-        let mut left = i;
-        let mut j: usize = 0;
-        while j < 22 {
-            let x = held_at(j);
-            let taken = self.takes(x);
-            if taken & (left == 0) {
-                return x;
-            }
-            left = still_left(left, taken);
-            j += 1;
-        }
-        Setting::Uni
-    }
-
-    fn knows_query(self, q: Query) -> bool
-        ensures { result ≡ knows self (OfReplying (OfQuery q)) }
-    {
-        match q {
-            Query::Sps => true,
-            Query::Pr(_) => true,
-            Query::Prx => true,
-            Query::Tid => true,
-            Query::Ayt => !self.is_older(),
-            Query::Pnr => self.is_older(),
-            Query::Err => true,
-        }
+        HELD.iter()
+            .copied()
+            .filter(|x| self.takes(*x))
+            .nth(i)
+            .unwrap_or(Setting::Uni)
     }
 
     fn knows(self, m: Mnemonic) -> bool
         ensures { result ≡ knows self m }
     {
         match m {
-            Mnemonic::OfReplying(a) => match a {
-                Replying::OfSetting(x) => self.takes(x),
-                Replying::Cf(_) => !self.is_older(),
-                Replying::OfQuery(q) => self.knows_query(q),
-            },
-            Mnemonic::Com => true,
-            Mnemonic::Sav => true,
+            Mnemonic::OfReplying(Replying::OfSetting(x)) => self.takes(x),
+            Mnemonic::OfReplying(Replying::Cf(_) | Replying::OfQuery(Query::Ayt)) =>
+                !self.is_older(),
+            Mnemonic::OfReplying(Replying::OfQuery(Query::Pnr)) => self.is_older(),
+            _ => true,
         }
     }
 
-    // Whether three letters are the name of a mnemonic that the model knows.
-    fn calls(self, m: Mnemonic, a: u8, b: u8, c: u8) -> bool
-        ensures { result ≡ same (name m) (a ∷ b ∷ c ∷ []) && knows self m }
+    // Whether a word is the name of a mnemonic that the model knows.
+    fn calls(self, m: Mnemonic, word: [u8; 3]) -> bool
+        ensures { result ≡ same (name m) word && knows self m }
     {
-        let e = self.entry(m);
-        let name = e.name;
-        if spells(name, a, b, c) {
-            return self.knows(m);
-        }
-        false
+        self.entry(m).name == word && self.knows(m)
     }
 
     // The mnemonic of three letters.
-    pub fn named(self, a: u8, b: u8, c: u8) -> Named
-        ensures { result ≡ recognised self (a ∷ b ∷ c ∷ []) }
+    pub fn named(self, word: [u8; 3]) -> Option<Mnemonic>
+        ensures { result ≡ recognised self word }
     {
-        let mut i: usize = 0;
-        while i < ALL {
-            let m = mnemonic_at(i);
-            if self.calls(m, a, b, c) {
-                return Named::Known(m);
-            }
-            i += 1;
-        }
-        Named::Unknown
+        HELD.iter()
+            .map(|x| Mnemonic::OfReplying(Replying::OfSetting(*x)))
+            .chain(OTHERS.iter().copied())
+            .find(|m| self.calls(*m, word))
     }
 
     // Whether the model has the channel that a mnemonic is about.
@@ -230,18 +145,18 @@ impl Model {
         ensures { result ≡ is_there self m }
     {
         match m {
-            Mnemonic::OfReplying(a) => (a.channel() as usize) < self.channels(),
-            Mnemonic::Com => true,
-            Mnemonic::Sav => true,
+            Mnemonic::OfReplying(a) => usize::from(a.channel()) < self.channels(),
+            Mnemonic::Com | Mnemonic::Sav => true,
         }
     }
 
     // Whether a box of the model can answer it when it is selected.
+    #[tactic(auto, unfolding(crate::specs::Mnemonics::answers))]
     pub fn answers(self, a: Replying) -> bool
         ensures { result ≡ answers self a }
     {
         let m = Mnemonic::OfReplying(a);
-        self.knows(m) & self.has(m)
+        self.knows(m) && self.has(m)
     }
 }
 
@@ -250,19 +165,7 @@ impl Replying {
     pub fn is_err(self) -> bool
         ensures { result ≡ is_err self }
     {
-        match self {
-            Replying::OfSetting(_) => false,
-            Replying::Cf(_) => false,
-            Replying::OfQuery(q) => match q {
-                Query::Sps => false,
-                Query::Pr(_) => false,
-                Query::Prx => false,
-                Query::Tid => false,
-                Query::Ayt => false,
-                Query::Pnr => false,
-                Query::Err => true,
-            },
-        }
+        matches!(self, Replying::OfQuery(Query::Err))
     }
 
     // The channel that it is about, from 0 on; 0 where it is about none.
@@ -270,17 +173,8 @@ impl Replying {
         ensures { result ≡ channel_of self }
     {
         match self {
-            Replying::OfSetting(_) => 0,
-            Replying::Cf(k) => k,
-            Replying::OfQuery(q) => match q {
-                Query::Pr(k) => k,
-                Query::Sps => 0,
-                Query::Prx => 0,
-                Query::Tid => 0,
-                Query::Ayt => 0,
-                Query::Pnr => 0,
-                Query::Err => 0,
-            },
+            Replying::Cf(k) | Replying::OfQuery(Query::Pr(k)) => k,
+            _ => 0,
         }
     }
 }

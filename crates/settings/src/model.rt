@@ -1,56 +1,45 @@
 // The models, and the rules that belong to one.
-ghost use Rattle.std.specs.Prelude.{◌≡◌};
-ghost use Rattle.text.specs.Page.{page, puts};
+ghost use Rattle.std.specs.Prelude.{◌≡◌, MatchResult, Some, None};
+ghost use Rattle.text.specs.Writing.{Wrote};
 ghost use Rattle.settings.specs.Models.{model_of, is_older, channels, names, power_on_mode, first_following, starts_on, follows, agrees};
 
-use text::append;
+use text::writer::Writer;
 
-#[derive(Clone, Copy)]
+#[derive(Clone, Copy, Debug, PartialEq, Eq)]
 pub enum Model {
     Tpg361,
     Tpg362,
     Tpg262,
 }
 
-// The model of a number.
-#[derive(Clone, Copy)]
-pub enum Numbered {
-    One(Model),
-    NoModel,
+// A number that names no model.
+#[derive(Clone, Copy, Debug)]
+pub struct UnknownModel;
+
+impl TryFrom<u32> for Model {
+    type Error = UnknownModel;
+
+    ghost try_from_gives = { λ n r. MatchResult r (λ m. model_of n ≡ Some m) (λ _. model_of n ≡ None) };
+
+    fn try_from(number: u32) -> Result<Model, UnknownModel> {
+        match number {
+            361 => Ok(Model::Tpg361),
+            362 => Ok(Model::Tpg362),
+            262 => Ok(Model::Tpg262),
+            _ => Err(UnknownModel),
+        }
+    }
 }
-
-const NAMES_361: [u8; 15] = *b"TPG361,PTG28040";
-
-const NAMES_362: [u8; 15] = *b"TPG362,PTG28290";
 
 impl Model {
     // of the assignments that follow no channel, the one that is always on
     pub const ALWAYS_ON: u32 = 1;
 
-    pub fn numbered(n: u32) -> Numbered
-        ensures { result ≡ model_of n }
-    {
-        if n == 361 {
-            return Numbered::One(Model::Tpg361);
-        }
-        if n == 362 {
-            return Numbered::One(Model::Tpg362);
-        }
-        if n == 262 {
-            return Numbered::One(Model::Tpg262);
-        }
-        Numbered::NoModel
-    }
-
     // Whether it is the older unit, which has a column of its own in every table.
     pub(crate) fn is_older(self) -> bool
         ensures { result ≡ is_older self }
     {
-        match self {
-            Model::Tpg361 => false,
-            Model::Tpg362 => false,
-            Model::Tpg262 => true,
-        }
+        matches!(self, Model::Tpg262)
     }
 
     pub fn channels(self) -> usize
@@ -58,20 +47,26 @@ impl Model {
     {
         match self {
             Model::Tpg361 => 1,
-            Model::Tpg362 => 2,
-            Model::Tpg262 => 2,
+            Model::Tpg362 | Model::Tpg262 => 2,
         }
     }
 
-    // The model's names for AYT put into out from `at` on; the place after them. A model that does not know AYT has none.
-    pub fn write_names(self, out: &mut [u8], at: usize) -> usize
-        ensures { page out.new result ≡ puts (page out.old at) (names self) }
+    // The model's names for AYT. A model that does not know AYT has none.
+    fn names(self) -> &'static [u8]
+        ensures { result.now ≡ names self }
     {
         match self {
-            Model::Tpg361 => append(out, at, &NAMES_361),
-            Model::Tpg362 => append(out, at, &NAMES_362),
-            Model::Tpg262 => at,
+            Model::Tpg361 => b"TPG361,PTG28040",
+            Model::Tpg362 => b"TPG362,PTG28290",
+            Model::Tpg262 => b"",
         }
+    }
+
+    // They are written as AYT tells them.
+    pub fn write_names(self, out: &mut Writer)
+        ensures { Wrote out.old out.new (names self) }
+    {
+        out.append(self.names());
     }
 
     // The mode of COM that a box streams in from power-on.
@@ -92,20 +87,20 @@ impl Model {
     pub fn starts_on(self, assignment: u32) -> bool
         ensures { result ≡ starts_on self assignment }
     {
-        (assignment < self.first_following()) & (assignment == Model::ALWAYS_ON)
+        assignment < self.first_following() && assignment == Model::ALWAYS_ON
     }
 
     // Whether a switching function of this assignment follows the readings of a channel, from 0 on.
     pub fn follows(self, assignment: u32, channel: u8) -> bool
         ensures { result ≡ follows self assignment channel }
     {
-        assignment == (channel as u32) + self.first_following()
+        assignment == u32::from(channel) + self.first_following()
     }
 
     // Whether a switching function of this assignment may be found on, or off.
     pub fn agrees(self, assignment: u32, on: bool) -> bool
         ensures { result ≡ agrees self assignment on }
     {
-        (self.first_following() <= assignment) | (on == self.starts_on(assignment))
+        self.first_following() <= assignment || on == self.starts_on(assignment)
     }
 }

@@ -1,11 +1,12 @@
 // The settings as rows of three cells, one row for each line of the sheet; storing what a line writes.
-ghost use Rattle.std.specs.Prelude.{◌≡◌, cond, map, get_or, set};
-ghost use Rattle.settings.specs.Rows.{plain, pair_row, cells_of, first_number, mixed, no_switching, no_pair, row_of_pair, row, switching_in, with_factors, with_row};
+ghost use Rattle.std.specs.Prelude.{◌≡◌};
+ghost use Rattle.settings.specs.Rows.{plain, pair_row, cells_of, pair_of, switching_of, row_of_pair, mixed, row, switching_in, with_unit, with_row};
 ghost use Rattle.settings.specs.Table.{stored};
 
 use crate::mnemonic::{Mnemonic, Replying, Setting};
 use crate::model::Model;
 use crate::{Pair, Settings, Switching};
+use ground::places::{at_or, put_at};
 use numbers::threshold::Threshold;
 
 // Up to three cells; a whole number or a factor is a cell with exponent 0.
@@ -37,76 +38,94 @@ pub fn pair_row(a: u32, b: u32) -> Row
     }
 }
 
-fn switch_row(switching: [Switching; 4], k: u8) -> Row
-    ensures { result ≡ cells_of (get_or switching k no_switching) }
-{
-    let i = k as usize;
-    if i < 4 {
-        let w = switching[i];
-        let second = w.lower;
-        let third = w.upper;
-        return Row {
-            first: plain(w.assignment),
-            second,
-            third,
-        };
-    }
-    pair_row(0, 0)
-}
+// A switching function, and a pair, that is not there.
+const NO_SWITCHING: Switching = Switching {
+    assignment: 0,
+    lower: Threshold {
+        mantissa: 0,
+        exponent: 0,
+    },
+    upper: Threshold {
+        mantissa: 0,
+        exponent: 0,
+    },
+};
 
-fn stored_row(stored: [Pair; 16], k: u8) -> Row
-    ensures { result ≡ row_of_pair (get_or stored k no_pair) }
-{
-    let i = k as usize;
-    if i < 16 {
-        let p = stored[i];
-        return pair_row(p.first, p.second);
-    }
-    pair_row(0, 0)
-}
+const NO_PAIR: Pair = Pair {
+    first: 0,
+    second: 0,
+};
 
-fn either(on: bool, a: Threshold, b: Threshold) -> Threshold
-    ensures { result ≡ cond on a b }
-{
-    if on { a } else { b }
+impl Row {
+    // The numbers in the first two cells.
+    pub(crate) fn pair(self) -> Pair
+        ensures { result ≡ pair_of self }
+    {
+        Pair {
+            first: self.first.mantissa,
+            second: self.second.mantissa,
+        }
+    }
+
+    // A switching function from its cells.
+    fn switching(self) -> Switching
+        ensures { result ≡ switching_of self }
+    {
+        Switching {
+            assignment: self.first.mantissa,
+            lower: self.second,
+            upper: self.third,
+        }
+    }
 }
 
 // The first n cells of a, and the others of b.
 fn mixed(n: usize, a: Row, b: Row) -> Row
     ensures { result ≡ mixed n a b }
 {
-    Row {
-        first: either(0 < n, a.first, b.first),
-        second: either(1 < n, a.second, b.second),
-        third: either(2 < n, a.third, b.third),
+    match n {
+        0 => b,
+        1 => Row {
+            first: a.first,
+            ..b
+        },
+        2 => Row {
+            third: b.third,
+            ..a
+        },
+        _ => a,
     }
 }
 
 impl Switching {
+    fn cells(self) -> Row
+        ensures { result ≡ cells_of self }
+    {
+        Row {
+            first: plain(self.assignment),
+            second: self.lower,
+            third: self.upper,
+        }
+    }
+
     // The function with its thresholds in another unit.
     fn in_unit(self, old: u32, new: u32) -> Switching
         ensures { result ≡ switching_in old new self }
     {
-        let lower = self.lower;
-        let upper = self.upper;
         Switching {
-            assignment: self.assignment,
-            lower: lower.re_expressed(old, new),
-            upper: upper.re_expressed(old, new),
+            lower: self.lower.re_expressed(old, new),
+            upper: self.upper.re_expressed(old, new),
+            ..self
         }
     }
 }
 
-// All four of them.
-fn all_in_unit(w: [Switching; 4], old: u32, new: u32) -> [Switching; 4]
-    ensures { result ≡ map (switching_in old new) w }
-{
-    [
-        w[0].in_unit(old, new),
-        w[1].in_unit(old, new),
-        w[2].in_unit(old, new),
-        w[3].in_unit(old, new),
-    ]
+impl Pair {
+    fn cells(self) -> Row
+        ensures { result ≡ row_of_pair self }
+    {
+        pair_row(self.first, self.second)
+    }
 }
 
 impl Settings {
@@ -117,14 +136,19 @@ impl Settings {
         match x {
             Setting::Uni => pair_row(self.unit, 0),
             Setting::Cal => pair_row(self.factors[0], self.factors[1]),
-            Setting::Sp(k) => {
-                let w = self.switching;
-                switch_row(w, k)
-            }
-            Setting::Stored(k) => {
-                let w = self.stored;
-                stored_row(w, k)
-            }
+            Setting::Sp(k) => at_or(self.switching, k, NO_SWITCHING).cells(),
+            Setting::Stored(k) => at_or(self.stored, k, NO_PAIR).cells(),
+        }
+    }
+
+    // The settings with another unit, which the thresholds follow.
+    fn with_unit(self, unit: u32) -> Settings
+        ensures { result ≡ with_unit self unit }
+    {
+        Settings {
+            unit,
+            switching: self.switching.map(|w| w.in_unit(self.unit, unit)),
+            ..self
         }
     }
 
@@ -132,54 +156,21 @@ impl Settings {
     fn with_row(self, x: Setting, r: Row) -> Settings
         ensures { result ≡ with_row self x r }
     {
-        let a = r.first;
-        let b = r.second;
-        let c = r.third;
-        let mut s = self;
         match x {
-            Setting::Uni => {
-                let w = self.switching;
-                let follow = all_in_unit(w, self.unit, a.mantissa);
-                s.unit = a.mantissa;
-                s.switching = follow;
-            }
-            Setting::Cal => {
-                s.factors = [a.mantissa, b.mantissa];
-            }
-            Setting::Sp(k) => {
-                let i = k as usize;
-                if i < 4 {
-                    s.switching[i] = Switching {
-                        assignment: a.mantissa,
-                        lower: b,
-                        upper: c,
-                    };
-                }
-            }
-            Setting::Stored(k) => {
-                let i = k as usize;
-                if i < 16 {
-                    s.stored[i] = Pair {
-                        first: a.mantissa,
-                        second: b.mantissa,
-                    };
-                }
-            }
+            Setting::Uni => self.with_unit(r.first.mantissa),
+            Setting::Cal => Settings {
+                factors: [r.first.mantissa, r.second.mantissa],
+                ..self
+            },
+            Setting::Sp(k) => Settings {
+                switching: put_at(self.switching, k, r.switching()),
+                ..self
+            },
+            Setting::Stored(k) => Settings {
+                stored: put_at(self.stored, k, r.pair()),
+                ..self
+            },
         }
-        s
-    }
-
-    // The settings with another factor for a channel, from 0 on.
-    fn with_factor(self, k: u8, r: Row) -> Settings
-        ensures { result ≡ with_factors self (set self.factors k (first_number r)) }
-    {
-        let mut s = self;
-        let a = r.first;
-        let i = k as usize;
-        if i < 2 {
-            s.factors[i] = a.mantissa;
-        }
-        s
     }
 
     // The settings after an accepted line has written the cells r.
@@ -187,17 +178,15 @@ impl Settings {
         ensures { result ≡ stored model self m r }
     {
         match m {
-            Mnemonic::OfReplying(a) => match a {
-                Replying::OfSetting(x) => {
-                    let e = model.setting_entry(x);
-                    let f = e.fields;
-                    self.with_row(x, mixed(f.count, r, self.row(x)))
-                }
-                Replying::Cf(k) => self.with_factor(k, r),
-                Replying::OfQuery(_) => self,
+            Mnemonic::OfReplying(Replying::OfSetting(x)) => {
+                let count = model.setting_entry(x).fields.count;
+                self.with_row(x, mixed(count, r, self.row(x)))
+            }
+            Mnemonic::OfReplying(Replying::Cf(k)) => Settings {
+                factors: put_at(self.factors, k, r.first.mantissa),
+                ..self
             },
-            Mnemonic::Com => self,
-            Mnemonic::Sav => self,
+            _ => self,
         }
     }
 }

@@ -1,8 +1,8 @@
 // The table of settings, row for row, and the mnemonics beside it: the name of each, its fields and its default.
-ghost use Rattle.std.specs.Prelude.{◌≡◌, [], ◌∷◌};
+ghost use Rattle.std.specs.Prelude.{◌≡◌};
 ghost use Rattle.settings.specs.Models.{by_unit};
 ghost use Rattle.settings.specs.Rows.{pair_of};
-ghost use Rattle.settings.specs.Table.{whole, channel_choice, factor, of_numbers, single, per_channel, once, choosing, factors, lacking, on_both, on_newer, on_older, fieldless, nothing, numbered, switching_entry, stored_entry, setting_entry, replying_entry, entry, on, defaults};
+ghost use Rattle.settings.specs.Table.{whole, channel_choice, factor, of_numbers, single, per_channel, once, choosing, factors, lacking, on_both, on_newer, on_older, fieldless, nothing, numbered, switching_entry, stored_entry, setting_entry, replying_entry, entry, on, defaults, kind_at};
 ghost use Rattle.settings.specs.declared.mnemonic.Replying.TheVariants.{OfQuery};
 
 use crate::mnemonic::{Mnemonic, Query, Replying, Setting};
@@ -10,6 +10,7 @@ use crate::model::Model;
 use crate::rows::{Row, pair_row, plain};
 use crate::{Pair, Settings, Switching};
 use numbers::threshold::Threshold;
+use std::array;
 
 // From least to most; above it, up to paired, stands what needs a second channel that the model lacks.
 #[derive(Clone, Copy)]
@@ -33,6 +34,19 @@ pub struct Fields {
     pub count: usize,
     pub first: Kind,
     pub others: Kind,
+}
+
+impl Fields {
+    // The kind of a field by its place; none where there are not so many.
+    #[tactic(auto, unfolding(crate::specs::Table::kind_at))]
+    pub fn kind(self, place: usize) -> Option<Kind>
+        ensures { result ≡ kind_at self place }
+    {
+        if place < self.count {
+            return Some(if place == 0 { self.first } else { self.others });
+        }
+        None
+    }
 }
 
 // What a model has of a row of numbers: how many fields, of which kind, and the defaults of two cells.
@@ -73,26 +87,21 @@ fn whole(least: u32, most: u32) -> Kind
 }
 
 // A name that ends with a number, counted from 1.
-fn numbered(a: u8, b: u8, k: u8) -> [u8; 3]
-    ensures { result ≡ numbered (a ∷ b ∷ []) k }
+fn numbered(family: [u8; 2], k: u8) -> [u8; 3]
+    ensures { result ≡ numbered family k }
 {
-    if k < 4 {
-        return [a, b, b'1' + k];
+    let [a, b] = family;
+    match k {
+        0..=3 => [a, b, b'1' + k],
+        _ => [a, b, 0],
     }
-    [a, b, 0]
 }
 
 // What a model that lacks the row has: its defaults.
 fn lacking(c: Column) -> Column
     ensures { result ≡ lacking c }
 {
-    let kind = c.kind;
-    Column {
-        count: 0,
-        kind,
-        first: c.first,
-        second: c.second,
-    }
+    Column { count: 0, ..c }
 }
 
 impl Model {
@@ -103,7 +112,7 @@ impl Model {
         let first = self.first_following();
         Kind::OfWhole(Limits {
             least: 0,
-            most: first + ((self.channels() as u32) - 1),
+            most: first + (self.channels() as u32 - 1),
             paired: first + 1,
         })
     }
@@ -119,6 +128,7 @@ impl Model {
         })
     }
 
+    // One function for each column of the table and no shared maker: `Table` has a definition of each name.
     // One whole number: least, most, default.
     fn single(self, least: u32, most: u32, default: u32) -> Column
         ensures { result ≡ single least most default self }
@@ -182,15 +192,13 @@ impl Model {
     fn of_numbers(self, name: [u8; 3], c: Column) -> Entry
         ensures { result ≡ on self (of_numbers name (λ m. c)) }
     {
-        let kind = c.kind;
-        let fields = Fields {
-            count: c.count,
-            first: kind,
-            others: kind,
-        };
         Entry {
             name,
-            fields,
+            fields: Fields {
+                count: c.count,
+                first: c.kind,
+                others: c.kind,
+            },
             default: pair_row(c.first, c.second),
         }
     }
@@ -242,30 +250,30 @@ impl Model {
         self.fieldless([0, 0, 0])
     }
 
+    #[tactic(auto, unfolding(crate::specs::Table::switching_entry))]
     fn switching_entry(self, k: u8) -> Entry
         ensures { result ≡ on self (switching_entry k) }
     {
-        if k < 4 {
-            let fields = Fields {
-                count: 3,
-                first: self.channel_choice(),
-                others: Kind::OfThreshold,
-            };
-            let default = Row {
-                first: plain(0),
-                second: LOWER,
-                third: UPPER,
-            };
-            return Entry {
-                name: numbered(b'S', b'P', k),
-                fields,
-                default,
-            };
+        match k {
+            0..=3 => Entry {
+                name: numbered(*b"SP", k),
+                fields: Fields {
+                    count: 3,
+                    first: self.channel_choice(),
+                    others: Kind::OfThreshold,
+                },
+                default: Row {
+                    first: plain(0),
+                    second: LOWER,
+                    third: UPPER,
+                },
+            },
+            _ => self.nothing(),
         }
-        self.nothing()
     }
 
     // name; least, most, default: on a 361 or 362, on a 262
+    #[tactic(auto, unfolding(crate::specs::Table::stored_entry))]
     fn stored_entry(self, k: u8) -> Entry
         ensures { result ≡ on self (stored_entry k) }
     {
@@ -310,7 +318,7 @@ impl Model {
     {
         match q {
             Query::Sps => self.fieldless(*b"SPS"),
-            Query::Pr(k) => self.fieldless(numbered(b'P', b'R', k)),
+            Query::Pr(k) => self.fieldless(numbered(*b"PR", k)),
             Query::Prx => self.fieldless(*b"PRX"),
             Query::Tid => self.fieldless(*b"TID"),
             Query::Ayt => self.fieldless(*b"AYT"),
@@ -324,7 +332,7 @@ impl Model {
     {
         match a {
             Replying::OfSetting(x) => self.setting_entry(x),
-            Replying::Cf(k) => self.of_numbers(numbered(b'C', b'F', k), self.factors(1)),
+            Replying::Cf(k) => self.of_numbers(numbered(*b"CF", k), self.factors(1)),
             Replying::OfQuery(q) => self.query_entry(q),
         }
     }
@@ -344,49 +352,24 @@ impl Model {
     fn preset(self, x: Setting) -> Pair
         ensures { result ≡ pair_of ((setting_entry x).default self) }
     {
-        let e = self.setting_entry(x);
-        let d = e.default;
-        let a = d.first;
-        let b = d.second;
-        Pair {
-            first: a.mantissa,
-            second: b.mantissa,
-        }
+        self.setting_entry(x).default.pair()
     }
 
     // What a fresh box is set to.
     pub fn defaults(self) -> Settings
         ensures { result ≡ defaults self }
     {
-        let uni = self.preset(Setting::Uni);
         let cal = self.preset(Setting::Cal);
-        let w = Switching {
+        let function = Switching {
             assignment: 0,
             lower: LOWER,
             upper: UPPER,
         };
         Settings {
-            unit: uni.first,
+            unit: self.preset(Setting::Uni).first,
             factors: [cal.first, cal.second],
-            switching: [w, w, w, w],
-            stored: [
-                self.preset(Setting::Stored(0)),
-                self.preset(Setting::Stored(1)),
-                self.preset(Setting::Stored(2)),
-                self.preset(Setting::Stored(3)),
-                self.preset(Setting::Stored(4)),
-                self.preset(Setting::Stored(5)),
-                self.preset(Setting::Stored(6)),
-                self.preset(Setting::Stored(7)),
-                self.preset(Setting::Stored(8)),
-                self.preset(Setting::Stored(9)),
-                self.preset(Setting::Stored(10)),
-                self.preset(Setting::Stored(11)),
-                self.preset(Setting::Stored(12)),
-                self.preset(Setting::Stored(13)),
-                self.preset(Setting::Stored(14)),
-                self.preset(Setting::Stored(15)),
-            ],
+            switching: [function; 4],
+            stored: array::from_fn(|k| self.preset(Setting::Stored(k as u8))),
         }
     }
 }

@@ -1,16 +1,16 @@
 -- The digits of a number, and those without their leading zeros.
-use Prim.Native.Nat.{ℕ, zero, suc, ◌+◌, ◌≤◌, ◌<◌}
-use mathlib.Core.Path.{◌≡◌, refl, ap}
+use Prim.Native.Nat.{ℕ, zero, suc, ◌+◌, ◌-◌, ◌≤◌, ◌<◌}
+use mathlib.Core.Path.{◌≡◌, refl, ap, ◌∙◌}
 use mathlib.Core.List.{List, [], ◌∷◌}
 use mathlib.Core.Bool.{Bool, true, false, cond, ◌&&◌}
 use native.Mathlib.Omega.{arith}
 use native.Mathlib.Nat.{suc-add, zero-add}
-use native.Mathlib.Numerals.{add-one}
-use borrow.Author.Tests.{le-leb, eq-eqb, ne_eqb}
-use lib.Dec.{eqb}
-use lib.ListN.{length, get_or, drop, length-drop, drop_of_length-le}
-use lib.Seq.{drop-cons}
+use borrow.Author.Tests.{le-leb}
+use lib.Dec.{eqb, leb}
+use lib.ListN.{length, take, drop}
+use lib.Seq.{take_all}
 use Rattle.ground.proofs.Tables.{alike}
+use Rattle.std.specs.List.{prefix_len}
 use Rattle.text.specs.Digits.{dig, bare, whole_text}
 
 pub dig_length : (k n : ℕ) → length (dig k n) ≡ k
@@ -22,32 +22,32 @@ pub dig_last : (j k n : ℕ) → drop j (dig (j + k) n) ≡ dig k n
 dig_last zero k n = rw zero-add
 dig_last (suc j) k n = rw suc-add (dig_last j k n)
 
--- ---- digits without their leading zeros
+-- from the tenth from the end on they are all, and from a later one on fewer
+pub last_digits : (n w : ℕ) → w ≤ 10 → take (10 - (10 - w)) (drop (10 - w) (dig 10 n)) ≡ dig w n
+last_digits n w h =
+    let all : 10 ≡ 10 - w + w = omega arith in
+    let e : drop (10 - w) (dig 10 n) ≡ dig w n = ap (λ (j : ℕ). drop (10 - w) (dig j n)) all ∙ dig_last (10 - w) w n in
+    rw e (take_all (10 - (10 - w)) (dig w n) (omega (arith, dig_length w n)))
 
-module _ (d : List ℕ) (i : ℕ) (more : i + 1 < length d) where
-  cons : drop i d ≡ get_or d i 0 ∷ drop (suc i) d
-  cons = drop-cons d i 0 (omega arith)
+-- ---- digits without their leading zeros: behind the zeros of all but the last
 
-  rest_some : 1 ≤ length (drop (suc i) d)
-  rest_some = omega (arith, length-drop (suc i) d)
-
-  pub bare_zero : get_or d i 0 ≡ 48 → bare (drop (i + 1) d) ≡ bare (drop i d)
-  unfolding bare
-  bare_zero e = rw (add-one i, cons) (rw (eq-eqb _ _ e, le-leb _ _ rest_some))
-
-  pub bare_digit : (get_or d i 0 ≡ 48 → ⊥) → drop i d ≡ bare (drop i d)
-  unfolding bare
-  bare_digit n = rw cons (rw (ne_eqb _ _ n))
-
-pub bare_last : (d : List ℕ) (i : ℕ) → i + 1 ≡ length d → drop i d ≡ bare (drop i d)
+pub bare_zeros : (d : List ℕ) (n : ℕ) → length d ≡ n + 1 → drop (prefix_len (λ b. eqb b 48) (take n d)) d ≡ bare d
 unfolding bare
-bare_last d i e =
-    let none : drop (suc i) d ≡ [] = drop_of_length-le d {i = suc i} (omega arith) in
-    rw (drop-cons d i 0 (omega arith), none) (go (eqb (get_or d i 0) 48))
+bare_zeros [] n h = absurd (omega arith)
+bare_zeros (b ∷ []) zero h = last (eqb b 48)
   where
-    go : (t : Bool) → get_or d i 0 ∷ [] ≡ cond (t && false) [] (get_or d i 0 ∷ [])
-    go true = refl
-    go false = refl
+    last : (t : Bool) → b ∷ [] ≡ cond (t && false) [] (b ∷ [])
+    last true = refl
+    last false = refl
+bare_zeros (b ∷ c ∷ d) zero h = absurd (omega arith)
+bare_zeros (b ∷ d) (suc n) h = go (eqb b 48) (prefix_len (λ b. eqb b 48) (take n d)) (bare_zeros d n (omega arith))
+  where
+    some : leb 1 (length d) ≡ true
+    some = le-leb _ _ (omega arith)
+
+    go : (t : Bool) (k : ℕ) → drop k d ≡ bare d → drop (cond t (1 + k) 0) (b ∷ d) ≡ cond (t && leb 1 (length d)) (bare d) (b ∷ d)
+    go true k e = let one : 1 + k ≡ suc k = omega arith in rw (one, some) e
+    go false k e = refl
 
 -- a number of one digit is that digit
 pub whole_digit : (n : ℕ) → n < 10 → whole_text n ≡ (48 + n) ∷ []

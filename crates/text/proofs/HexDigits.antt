@@ -4,26 +4,38 @@ use mathlib.Core.Path.{◌≡◌, refl}
 use mathlib.Core.List.{List, [], ◌∷◌}
 use mathlib.Core.Bool.{true, false, cond, ◌&&◌, and-false, and-eq-true_iff}
 use native.Mathlib.Omega.{arith}
-use borrow.Author.Tests.{ltb-true, lt-ltb, eqb-true}
+use borrow.Author.Tests.{eqb-true}
 use lib.ListN.{length, get_or}
 use lib.Dec.{eqb}
-use Rattle.ground.proofs.Tables.{everywhere}
-use Rattle.ground.proofs.Cases.{never}
-use Rattle.text.specs.Hex.{digit_of, hex, value_of, is_hex_digit, is_hex, unhex}
+use Rattle.std.specs.Prelude.{Option, Some, unwrap_or}
+use Rattle.ground.specs.Ranges.{in_range}
+use Rattle.ground.proofs.Tables.{alike, everywhere}
+use Rattle.ground.proofs.Cases.{never, cond_cases, in_range_lem}
+use Rattle.text.specs.Hex.{digit_of, hex, value_of, is_hex_digit, is_hex, byte_of, unhex}
 
 -- both ways for a digit, each by one computed test
-pub value_back : (n : ℕ) → n < 16 → value_of (digit_of n) ≡ n
+pub value_back : (n : ℕ) → n < 16 → value_of (digit_of n) ≡ Some n
 unfolding digit_of value_of
-value_back n h = eqb-true (value_of (digit_of n)) n (everywhere (λ (k : ℕ). eqb (value_of (digit_of k)) k) 16 refl n h)
+value_back = alike (λ (k : ℕ). value_of (digit_of k)) Some 16 refl
 
-pub digit_back : (c : ℕ) → c < 256 → is_hex_digit c ≡ true → digit_of (value_of c) ≡ c
+pub digit_back : (c : ℕ) → c < 256 → is_hex_digit c ≡ true → digit_of (unwrap_or (value_of c) 0) ≡ c
 unfolding digit_of value_of
 digit_back c h e =
-    let test : cond (is_hex_digit c) (eqb (digit_of (value_of c)) c) true ≡ true = everywhere (λ (k : ℕ). cond (is_hex_digit k) (eqb (digit_of (value_of k)) k) true) 256 refl c h in
-    eqb-true (digit_of (value_of c)) c (rw e at test)
+    let test : cond (is_hex_digit c) (eqb (digit_of (unwrap_or (value_of c) 0)) c) true ≡ true = everywhere (λ (k : ℕ). cond (is_hex_digit k) (eqb (digit_of (unwrap_or (value_of k) 0)) k) true) 256 refl c h in
+    eqb-true (digit_of (unwrap_or (value_of c) 0)) c (rw e at test)
 
 pub value_digit : (n : ℕ) → n < 16 → is_hex_digit (digit_of n) ≡ true
-value_digit n h = rw (value_back n h) (lt-ltb n 16 h)
+value_digit n h = rw (value_back n h)
+
+-- no digit has a value past 15
+value_small : (c : ℕ) → unwrap_or (value_of c) 0 < 16
+unfolding value_of
+value_small c =
+    cond_cases (λ (v : Option ℕ). unwrap_or v 0 < 16) (in_range 48 57 c) _ _ (λ e. omega (arith, (in_range_lem 48 57 c e).1))
+    (λ _. cond_cases (λ (v : Option ℕ). unwrap_or v 0 < 16) (in_range 65 70 c) _ _ (λ e. omega (arith, (in_range_lem 65 70 c e).1)) (λ _. omega arith))
+
+pub value_below : (c v : ℕ) → value_of c ≡ Some v → v < 16
+value_below c v e = rw e at (value_small c)
 
 -- a byte that two digits stand for is one
 pub unhex_small : (l : List ℕ) → is_hex l ≡ true → (i : ℕ) → get_or (unhex l) i 0 ≤ 255
@@ -31,10 +43,7 @@ unfolding is_hex unhex
 unhex_small [] e zero = omega arith
 unhex_small [] e (suc i) = omega arith
 unhex_small (a ∷ []) e i = never (cc)
-unhex_small (a ∷ b ∷ l) e zero =
-    let both = (and-eq-true_iff (is_hex_digit a && is_hex_digit b) (is_hex l)).0 e in
-    let each = (and-eq-true_iff (is_hex_digit a) (is_hex_digit b)).0 both.0 in
-    omega (arith, ltb-true (value_of a) 16 each.0, ltb-true (value_of b) 16 each.1)
+unhex_small (a ∷ b ∷ l) e zero = omega (arith, value_small a, value_small b)
 unhex_small (a ∷ b ∷ l) e (suc i) = unhex_small l ((and-eq-true_iff (is_hex_digit a && is_hex_digit b) (is_hex l)).0 e).1 i
 
 -- bytes written are read back as they were
@@ -56,9 +65,8 @@ line_back (a ∷ []) small e = never (cc)
 line_back (a ∷ b ∷ l) small e =
     let both = (and-eq-true_iff (is_hex_digit a && is_hex_digit b) (is_hex l)).0 e in
     let each = (and-eq-true_iff (is_hex_digit a) (is_hex_digit b)).0 both.0 in
-    let below : value_of b < 16 = ltb-true (value_of b) 16 each.1 in
-    let high : (16 * value_of a + value_of b) / 16 ≡ value_of a = omega (arith, below) in
-    let low : (16 * value_of a + value_of b) % 16 ≡ value_of b = omega (arith, below) in
+    let high : byte_of a b / 16 ≡ unwrap_or (value_of a) 0 = omega (arith, value_small b) in
+    let low : byte_of a b % 16 ≡ unwrap_or (value_of b) 0 = omega (arith, value_small b) in
     rw (high, low, digit_back a (small 0) each.0, digit_back b (small 1) each.1, line_back l (λ (i : ℕ). small (suc (suc i))) both.1)
 
 -- a line of hexadecimal has two digits for each byte

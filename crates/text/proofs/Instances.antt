@@ -3,6 +3,7 @@ use Prim.Native.Nat.{ℕ, ◌+◌, ◌/◌, ◌%◌, ◌^◌}
 use mathlib.Core.Path.{◌≡◌, refl}
 use mathlib.Core.List.{[], ◌∷◌, ◌++◌, map}
 use mathlib.Core.Bool.{true, false}
+use Rattle.std.specs.Prelude.{Some, None}
 use Rattle.text.specs.Digits.{binary, bare, factor_text}
 use Rattle.text.specs.Text.{ascii}
 use Rattle.text.specs.Hex.{value_of}
@@ -20,6 +21,6 @@ unfolding bare
 factor_thousandths = refl
 
 -- the first and the last of each row of digits, and their neighbours that are none
-pub hex_values : map value_of (ascii "09AF" ++ ascii "/:@Ga") ≡ 0 ∷ 9 ∷ 10 ∷ 15 ∷ 16 ∷ 16 ∷ 16 ∷ 16 ∷ 16 ∷ []
+pub hex_values : map value_of (ascii "09AF" ++ ascii "/:@Ga") ≡ Some 0 ∷ Some 9 ∷ Some 10 ∷ Some 15 ∷ None ∷ None ∷ None ∷ None ∷ None ∷ []
 unfolding value_of
 hex_values = refl

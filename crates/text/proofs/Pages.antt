@@ -1,16 +1,22 @@
 -- Bytes put into an output one after the other.
-use Prim.Native.Nat.{ℕ, suc, ◌+◌, ◌≤◌, ◌<◌}
+use Prim.Native.Nat.{ℕ, suc, ◌+◌, ◌-◌, ◌≤◌, ◌<◌, min}
 use mathlib.Core.Path.{◌≡◌, refl, sym, ap, ◌∙◌}
 use mathlib.Core.List.{List, [], ◌∷◌, ◌++◌}
+use mathlib.Core.Logic.{⊎_elim}
 use mathlib.Core.Bool.{Bool, true, false, cond}
 use native.Mathlib.Omega.{arith}
 use native.Mathlib.Nat.{add-zero}
 use native.Mathlib.Numerals.{add-one}
 use borrow.Author.Tests.{lt-ltb, le-ltb}
 use lib.Dec.{ltb}
-use lib.ListN.{length, get_or, set, drop, length-set, drop_of_length-le}
-use lib.Seq.{drop-cons, sets}
+use lib.ListN.{length, get_or, set, take, drop, length-set, length-take, take-append-drop, drop_of_length-le}
+use borrow.Rule.Slice.PartMut.{put_mid}
+use Rattle.std.proofs.Common.{append_assoc}
+use lib.Seq.{drop-cons, sets, sets-eq, length-sets, drop-drop}
+use Rattle.ground.proofs.Cases.{below}
 use Rattle.text.specs.Page.{Page, page, put, puts}
+use Rattle.text.specs.Writing.{page_of, Wrote}
+use Rattle.text.specs.declared.writer.Writer.{Writer}
 
 -- ---- in two steps is at once
 
@@ -21,6 +27,10 @@ puts_append p (x ∷ xs) ys = puts_append (put p x) xs ys
 -- what one writer put, and then another behind it
 pub then : (p : Page) (xs ys : List ℕ) {q r : Page} → q ≡ puts p xs → r ≡ puts q ys → r ≡ puts p (xs ++ ys)
 then p xs ys e f = f ∙ ap (λ q. puts q ys) e ∙ sym (puts_append p xs ys)
+
+-- the same said of two calls on one writer
+pub wrote_then : {a b c : Writer} {xs ys : List ℕ} → Wrote a b xs → Wrote b c ys → Wrote a c (xs ++ ys)
+wrote_then {a} {xs = xs} {ys = ys} f g = record { same_output = g.same_output ∙ f.same_output; written = then (page_of a) xs ys f.written g.written }
 
 -- ---- one byte more where there is room for it
 
@@ -40,6 +50,26 @@ puts_room (b ∷ bs) out at room =
     let e : suc at + length bs ≡ at + length (b ∷ bs) = omega arith in
     rw (put_more out at b (omega arith), add-one at, ← e) (puts_room bs (set out at b) (suc at) (simp length-set (omega arith)))
 
+-- ---- past the end nothing changes
+
+pub puts_full : (bs out : List ℕ) (at : ℕ) → length out ≤ at → puts (page out at) bs ≡ page out at
+puts_full [] out at full = refl
+puts_full (b ∷ bs) out at full = rw (put_full out at b full) (puts_full bs out at full)
+
+-- with room for the first n, and for no more where they are more, those are all that is stored
+pub puts_fit : (bs out : List ℕ) (at n : ℕ) → at < length out → n ≡ min (length bs) (length out - at)
+    → puts (page out at) bs ≡ page (put_mid at n out (take n bs)) (at + n)
+puts_fit bs out at n h e =
+    let part : length (take n bs) ≡ n = omega (arith, length-take n bs) in
+    let room : at + length (take n bs) ≤ length out = omega arith in
+    let stored = puts_room (take n bs) out at room in
+    let rest : puts (page (sets out at (take n bs)) (at + n)) (drop n bs) ≡ page (sets out at (take n bs)) (at + n) =
+    ⊎_elim (λ (l : n < length bs). puts_full (drop n bs) (sets out at (take n bs)) (at + n) (omega (arith, length-sets out at (take n bs))))
+    (λ (g : length bs ≤ n). ap (puts (page (sets out at (take n bs)) (at + n))) (drop_of_length-le bs {i = n} g)) (below n (length bs)) in
+    let form : sets out at (take n bs) ≡ put_mid at n out (take n bs) = sets-eq (take n bs) out at room ∙ rw (part, drop-drop n at out, append_assoc) in
+    ap (puts (page out at)) (sym (take-append-drop n bs)) ∙ puts_append (page out at) (take n bs) (drop n bs)
+    ∙ rw (stored, part) rest ∙ ap (λ l. page l (at + n)) form
+
 -- ---- the output stays as long as it was
 
 pub put_length : (p : Page) (b : ℕ) → length (put p b).bytes ≡ length p.bytes
@@ -53,18 +83,3 @@ put_length p b = go (ltb p.at (length p.bytes))
 pub puts_length : (p : Page) (bs : List ℕ) → length (puts p bs).bytes ≡ length p.bytes
 puts_length p [] = refl
 puts_length p (b ∷ bs) = rw (puts_length (put p b) bs) (put_length p b)
-
--- ---- the byte at i, and then those behind it
-
-pub puts_next : (p : Page) (d : List ℕ) (i : ℕ) → i < length d → puts (put p (get_or d i 0)) (drop (i + 1) d) ≡ puts p (drop i d)
-puts_next p d i h = rw (add-one i, drop-cons d i 0 h)
-
--- past the last byte nothing is left to put
-pub puts_done : (p : Page) (d : List ℕ) (i : ℕ) → length d ≤ i → puts p (drop i d) ≡ p
-puts_done p d i h = ap (puts p) (drop_of_length-le d {i = i} h)
-
--- the byte at i, written where there is room
-pub filled_next : (out d : List ℕ) (at i : ℕ) → i < length d → at + i < length out → puts (page (set out (at + i) (get_or d i 0)) (at + (i + 1))) (drop (i + 1) d) ≡ puts (page out (at + i)) (drop i d)
-filled_next out d at i h fits =
-    let e : at + (i + 1) ≡ at + i + 1 = omega arith in
-    rw (e, sym (put_more out (at + i) (get_or d i 0) fits)) (puts_next (page out (at + i)) d i h)

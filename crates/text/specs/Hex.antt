@@ -1,5 +1,5 @@
 -- Upper-case hexadecimal (01, "The bench program": "It reads lines of upper-case hexadecimal").
-use Rattle.std.specs.Prelude.{ℕ, ◌+◌, ◌*◌, ◌-◌, ◌/◌, ◌%◌, List, [], ◌∷◌, ◌++◌, Bool, true, false, cond, ◌&&◌, get_or, ltb}
+use Rattle.std.specs.Prelude.{ℕ, ◌+◌, ◌*◌, ◌-◌, ◌/◌, ◌%◌, List, [], ◌∷◌, ◌++◌, Bool, true, false, cond, ◌&&◌, get_or, Option, Some, None, is_some, unwrap_or}
 use Rattle.ground.specs.Ranges.{in_range}
 use Rattle.text.specs.Text.{ascii}
 
@@ -20,13 +20,13 @@ unfoldable pub hex : List ℕ → List ℕ
 hex [] = []
 hex (b ∷ bs) = hex_pair b ++ hex bs
 
--- the value of a digit, its place among the sixteen; 16 for any other character
-unfoldable pub value_of : ℕ → ℕ
-value_of c = cond (in_range 48 57 c) (c - 48) (cond (in_range 65 70 c) (c - 55) 16)
+-- the value of a digit, its place among the sixteen; none for any other character
+unfoldable pub value_of : ℕ → Option ℕ
+value_of c = cond (in_range 48 57 c) (Some (c - 48)) (cond (in_range 65 70 c) (Some (c - 55)) None)
 
 -- the character is a digit
 abbrev pub is_hex_digit : ℕ → Bool
-is_hex_digit c = ltb (value_of c) 16
+is_hex_digit c = is_some (value_of c)
 
 -- pairs of digits, and nothing else
 unfoldable pub is_hex : List ℕ → Bool
@@ -34,8 +34,12 @@ is_hex [] = true
 is_hex (a ∷ []) = false
 is_hex (a ∷ b ∷ rest) = (is_hex_digit a && is_hex_digit b) && is_hex rest
 
+-- the byte that two digits stand for
+abbrev pub byte_of : ℕ → ℕ → ℕ
+byte_of a b = 16 * unwrap_or (value_of a) 0 + unwrap_or (value_of b) 0
+
 -- the bytes that pairs of digits stand for
 unfoldable pub unhex : List ℕ → List ℕ
 unhex [] = []
 unhex (a ∷ []) = []
-unhex (a ∷ b ∷ rest) = (16 * value_of a + value_of b) ∷ unhex rest
+unhex (a ∷ b ∷ rest) = byte_of a b ∷ unhex rest

@@ -1,5 +1,6 @@
 pub mod Text
 pub mod Page
+pub mod Writing
 pub mod Digits
 pub mod Spans
 pub mod Control

@@ -3,15 +3,9 @@ ghost use Rattle.std.specs.Prelude.{◌≡◌, ◌+◌, length, drop};
 ghost use Rattle.text.specs.Spans.{until};
 
 // Where the bytes from a place on end: at the next mark, or where s ends.
+// A place beside s and no slice: the promise is of places past the end too, where `from` comes back.
 pub fn end_of(s: &[u8], from: usize, mark: u8) -> usize
     ensures { result ≡ from + length (until mark (drop from s.now)) }
 {
-    let mut i = from;
-    while i < s.len() {
-        if s[i] == mark {
-            return i;
-        }
-        i += 1;
-    }
-    i
+    from + s.iter().skip(from).take_while(|&&b| b != mark).count()
 }

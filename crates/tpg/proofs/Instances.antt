@@ -1,4 +1,5 @@
 -- What the definitions give where docs/promises/ names a wrong answer.
+use Rattle.std.specs.Prelude.{Option, Some, None, Ok, Err}
 use Prim.Native.Nat.{ℕ, ◌+◌, ◌≤◌, ◌<◌}
 use mathlib.Core.Path.{◌≡◌, refl, sym}
 use mathlib.Core.List.{[], ◌∷◌, append-nil}
@@ -11,13 +12,9 @@ use Rattle.gauges.specs.declared.reading.Reading.{Reading}
 use Rattle.settings.specs.Models.{model_of}
 use Rattle.settings.specs.declared.model.Model.{Model}
 use Rattle.settings.specs.declared.model.Model.TheVariants.{Tpg361}
-use Rattle.settings.specs.declared.model.Numbered.{Numbered}
-use Rattle.settings.specs.declared.model.Numbered.TheVariants.{One, NoModel}
 use Rattle.settings.specs.declared.mnemonic.Mnemonic.{Mnemonic}
 use Rattle.settings.specs.declared.rows.Row.{Row}
 use Rattle.lines.specs.Judging.{judged}
-use Rattle.lines.specs.declared.verdict.Verdict.{Verdict}
-use Rattle.lines.specs.declared.verdict.Verdict.TheVariants.{Asks, Writes, Refused}
 use Rattle.ports.specs.Line.{held}
 use Rattle.ports.specs.Hearing.{kind_of, by_kind, heard}
 use Rattle.ports.specs.Limits.{port_within}
@@ -31,10 +28,12 @@ use Rattle.tpg.specs.Calls.{made, fresh_call, admits, turned_away, roomed, hoste
 use Rattle.tpg.specs.declared.State.{State}
 use Rattle.tpg.specs.declared.answers.Outcome.{Outcome}
 use Rattle.tpg.proofs.Deciding.{elsewhere}
+use Rattle.lines.specs.declared.verdict.Order.TheVariants.{Asks, Writes}
+use Rattle.lines.specs.Verdicts.{Verdict}
 
 -- ---- a fresh box
 
-pub fresh_made : (n serial : ℕ) (model : Model) → model_of n ≡ One model → serial ≤ 99999999 → fresh_call n serial ≡ handed (answer 0) (fresh_box model serial)
+pub fresh_made : (n serial : ℕ) (model : Model) → model_of n ≡ Some model → serial ≤ 99999999 → fresh_call n serial ≡ handed (answer 0) (fresh_box model serial)
 unfolding fresh_call
 fresh_made n serial model e h = rw (e, le-leb serial 99999999 h)
 
@@ -43,9 +42,9 @@ pub serial_refused : (n serial : ℕ) → 99999999 < serial → fresh_call n ser
 unfolding fresh_call
 serial_refused n serial h = by (model_of n)
   where
-    by : (m : Numbered) → made m serial ≡ handed (answer 2) (fresh_box Tpg361 0)
-    by (One model) = rw (lt-leb serial 99999999 h)
-    by NoModel = refl
+    by : (m : Option Model) → made m serial ≡ handed (answer 2) (fresh_box Tpg361 0)
+    by (Some model) = rw (lt-leb serial 99999999 h)
+    by None = refl
 
 module _ (s : State) where
   -- ---- the limits
@@ -75,7 +74,7 @@ module _ (s : State) where
 
   -- ---- bytes of the host
 
-  pub accepted_ack : (b : ℕ) (m : Mnemonic) (r : Row) → (hearing s b).event ≡ Line (Writes m r) → sent s b ≡ ack ∷ cr_lf
+  pub accepted_ack : (b : ℕ) (m : Mnemonic) (r : Row) → (hearing s b).event ≡ Line (Ok (Writes m r)) → sent s b ≡ ack ∷ cr_lf
   unfolding sent event_text
   accepted_ack b m r e = rw e
 
@@ -85,9 +84,9 @@ module _ (s : State) where
   cr_sends = rw (and-false s.port.ended) (by (judged s.instrument.model (held s.port)))
     where
       by : (v : Verdict) → length (line_text v) ≡ 3
-      by (Asks m) = refl
-      by (Writes m r) = refl
-      by (Refused x) = refl
+      by (Ok (Asks m)) = refl
+      by (Ok (Writes m r)) = refl
+      by (Err x) = refl
 
   -- a CR is one byte, and three are sent for it
   pub cr_counts : (room : ℕ) → state_within s ≡ true → least_output ≤ room → ((host_call s (cr ∷ []) room).taken ≡ 1) × ((host_call s (cr ∷ []) room).written ≡ 3)

@@ -1,10 +1,9 @@
 -- Nothing that is sent is longer than the room that is asked for.
+use Rattle.std.specs.Prelude.{Ok, Err}
 use Prim.Native.Nat.{ℕ, ◌≤◌}
 use mathlib.Core.Bool.{Bool, true, false}
 use native.Mathlib.Omega.{arith}
 use lib.ListN.{length}
-use Rattle.lines.specs.declared.verdict.Verdict.{Verdict}
-use Rattle.lines.specs.declared.verdict.Verdict.TheVariants.{Asks, Writes, Refused}
 use Rattle.ports.specs.Stream.{ticked}
 use Rattle.ports.specs.declared.Event.{Event}
 use Rattle.ports.specs.declared.Event.TheVariants.{Silent, Line, Reply}
@@ -14,11 +13,13 @@ use Rattle.tpg.specs.Answers.{least_output}
 use Rattle.tpg.specs.Steps.{line_text, event_text, hearing, sent}
 use Rattle.tpg.specs.Calls.{due_text, tick_text}
 use Rattle.tpg.specs.declared.State.{State}
+use Rattle.lines.specs.declared.verdict.Order.TheVariants.{Asks, Writes}
+use Rattle.lines.specs.Verdicts.{Verdict}
 
 verdict_length : (v : Verdict) → length (line_text v) ≤ least_output
-verdict_length (Asks m) = omega arith
-verdict_length (Writes m r) = omega arith
-verdict_length (Refused x) = omega arith
+verdict_length (Ok (Asks m)) = omega arith
+verdict_length (Ok (Writes m r)) = omega arith
+verdict_length (Err x) = omega arith
 
 pub event_length : (s : Instrument) (e : Event) → length (event_text s e) ≤ least_output
 unfolding event_text

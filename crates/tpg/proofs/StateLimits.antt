@@ -1,4 +1,5 @@
 -- Every call keeps the limits of the state, and a fresh box has them.
+use Rattle.std.specs.Prelude.{Option, Some, None, Ok, Err}
 use Prim.Native.Nat.{ℕ, zero, suc, ◌-◌, ◌*◌}
 use mathlib.Core.Path.{◌≡◌, refl, sym, ◌∙◌, subst}
 use mathlib.Core.List.{List, [], ◌∷◌}
@@ -10,11 +11,7 @@ use Rattle.settings.specs.Models.{model_of, channels}
 use Rattle.settings.specs.Table.{defaults}
 use Rattle.settings.specs.declared.model.Model.{Model}
 use Rattle.settings.specs.declared.model.Model.TheVariants.{Tpg361}
-use Rattle.settings.specs.declared.model.Numbered.{Numbered}
-use Rattle.settings.specs.declared.model.Numbered.TheVariants.{One, NoModel}
 use Rattle.settings.proofs.StoredLimits.{defaults_within, defaults_shaped}
-use Rattle.lines.specs.declared.verdict.Verdict.{Verdict}
-use Rattle.lines.specs.declared.verdict.Verdict.TheVariants.{Asks, Writes, Refused}
 use Rattle.ports.specs.Line.{held}
 use Rattle.ports.specs.Limits.{port_within}
 use Rattle.ports.specs.declared.Event.{Event}
@@ -30,6 +27,8 @@ use Rattle.tpg.specs.Steps.{acted, hearing, next, after}
 use Rattle.tpg.specs.Calls.{made, fresh_call, admits, turned_away, roomed, taken_bytes, hosted, host_call, counted, tick_call, after_ticks, all_counted, ticks_call, is_channel, with_reading, reading_call, cycle_call}
 use Rattle.tpg.specs.declared.State.{State}
 use Rattle.tpg.specs.declared.answers.Outcome.{Outcome}
+use Rattle.lines.specs.declared.verdict.Order.TheVariants.{Asks, Writes}
+use Rattle.lines.specs.Verdicts.{Verdict}
 
 parts : (s : State) → state_within s ≡ true → (instrument_within s.instrument ≡ true) × (port_within s.instrument.model s.port ≡ true)
 unfolding state_within
@@ -53,9 +52,9 @@ module _ (model : Model) (serial : ℕ) (h : serial_within serial ≡ true) wher
 -- an event leaves the model, and the lengths of the arrays
 pub heard_model : (s : Instrument) (v : Verdict) → (applied s v).model ≡ s.model
 unfolding written
-heard_model s (Asks m) = refl
-heard_model s (Writes m r) = refl
-heard_model s (Refused x) = refl
+heard_model s (Ok (Asks m)) = refl
+heard_model s (Ok (Writes m r)) = refl
+heard_model s (Err x) = refl
 
 acted_model : (s : Instrument) (e : Event) → (acted s e).model ≡ s.model
 acted_model s Silent = refl
@@ -119,11 +118,11 @@ pub fresh_call_sound : (n serial : ℕ) → Sound (fresh_call n serial).state
 unfolding fresh_call
 fresh_call_sound n serial = by (model_of n)
   where
-    by : (m : Numbered) → Sound (made m serial).state
-    by (One model) =
+    by : (m : Option Model) → Sound (made m serial).state
+    by (Some model) =
         cond_cases (λ o. Sound o.state) (serial_within serial) (handed (answer 0) (fresh_box model serial)) (handed (answer 2) (fresh_box Tpg361 0))
         (λ h. fresh_sound model serial h) (λ _. fresh_sound Tpg361 0 refl)
-    by NoModel = fresh_sound Tpg361 0 refl
+    by None = fresh_sound Tpg361 0 refl
 
 module _ (s : State) (k : Sound s) where
   roomed_sound : (least room : ℕ) (o : Outcome) → Sound o.state → Sound (roomed s least room o).state

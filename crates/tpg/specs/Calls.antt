@@ -1,12 +1,10 @@
 -- The calls (01, "What the box answers to" and "Answer numbers of the calls"; 02, W-201): "Tested in the order 1 to 5."
-use Rattle.std.specs.Prelude.{ℕ, zero, suc, ◌-◌, ◌*◌, List, [], ◌++◌, Bool, cond, ◌&&◌, length, take, leb}
+use Rattle.std.specs.Prelude.{ℕ, zero, suc, ◌-◌, ◌*◌, List, [], ◌++◌, Bool, cond, ◌&&◌, length, take, leb, Option, Some, None}
 use Rattle.ground.specs.Ranges.{in_range}
 use Rattle.gauges.specs.declared.reading.Reading.{Reading}
 use Rattle.settings.specs.Models.{model_of, channels}
 use Rattle.settings.specs.declared.model.Model.{Model}
 use Rattle.settings.specs.declared.model.Model.TheVariants.{Tpg361}
-use Rattle.settings.specs.declared.model.Numbered.{Numbered}
-use Rattle.settings.specs.declared.model.Numbered.TheVariants.{One, NoModel}
 use Rattle.ports.specs.Stream.{ticked}
 use Rattle.instrument.specs.Events.{measured}
 use Rattle.instrument.specs.Limits.{gauge_within, serial_within}
@@ -19,9 +17,9 @@ use Rattle.tpg.specs.declared.State.{State}
 use Rattle.tpg.specs.declared.answers.Outcome.{Outcome}
 
 -- "model not 361 or 362, or serial above 99999999": "a fresh 361, serial 0"
-abbrev pub made : Numbered → ℕ → Outcome
-made (One model) serial = cond (serial_within serial) (handed (answer 0) (fresh_box model serial)) (handed (answer 2) (fresh_box Tpg361 0))
-made NoModel serial = handed (answer 2) (fresh_box Tpg361 0)
+abbrev pub made : Option Model → ℕ → Outcome
+made (Some model) serial = cond (serial_within serial) (handed (answer 0) (fresh_box model serial)) (handed (answer 2) (fresh_box Tpg361 0))
+made None serial = handed (answer 2) (fresh_box Tpg361 0)
 
 -- a fresh box from the model's number and the serial number
 unfoldable pub fresh_call : ℕ → ℕ → Outcome

@@ -1,8 +1,6 @@
 -- One byte of the host, and a run of bytes (01, "Bytes from the host" and "Answer numbers of the calls").
-use Rattle.std.specs.Prelude.{ℕ, suc, ◌-◌, List, [], ◌∷◌, ◌++◌, cond, length, drop, leb}
+use Rattle.std.specs.Prelude.{ℕ, suc, ◌-◌, List, [], ◌∷◌, ◌++◌, cond, length, drop, leb, Ok, Err}
 use Rattle.text.specs.Control.{ack, nak, cr_lf}
-use Rattle.lines.specs.declared.verdict.Verdict.{Verdict}
-use Rattle.lines.specs.declared.verdict.Verdict.TheVariants.{Asks, Writes, Refused}
 use Rattle.ports.specs.Hearing.{heard}
 use Rattle.ports.specs.declared.Event.{Event}
 use Rattle.ports.specs.declared.Event.TheVariants.{Silent, Line, Reply}
@@ -12,12 +10,12 @@ use Rattle.instrument.specs.Replies.{reply_text}
 use Rattle.instrument.specs.declared.Instrument.{Instrument}
 use Rattle.tpg.specs.Answers.{least_output}
 use Rattle.tpg.specs.declared.State.{State}
+use Rattle.lines.specs.Verdicts.{Verdict}
 
 -- "An accepted line sends ACK CR LF", "A refused one sends NAK CR LF"
 abbrev pub line_text : Verdict → List ℕ
-line_text (Asks m) = ack ∷ cr_lf
-line_text (Writes m r) = ack ∷ cr_lf
-line_text (Refused x) = nak ∷ cr_lf
+line_text (Ok order) = ack ∷ cr_lf
+line_text (Err fault) = nak ∷ cr_lf
 
 -- what is sent at an event
 unfoldable pub event_text : Instrument → Event → List ℕ

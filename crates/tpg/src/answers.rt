@@ -7,7 +7,8 @@ use crate::State;
 use instrument::Instrument;
 use ports::Port;
 
-#[derive(Clone, Copy)]
+// In the order of the paper's table, so that each stands at its number there.
+#[derive(Clone, Copy, PartialEq, Eq, Debug)]
 pub enum Answer {
     Accepted,
     BrokenState,
@@ -22,17 +23,11 @@ impl Answer {
     pub fn number(self) -> u8
         ensures { result ≡ number self }
     {
-        match self {
-            Answer::Accepted => 0,
-            Answer::BrokenState => 1,
-            Answer::NoModel => 2,
-            Answer::ShortOutput => 3,
-            Answer::NoChannel => 4,
-            Answer::BadReading => 5,
-        }
+        self as u8
     }
 }
 
+// No Result: each answer comes with a state and counts, and `refusals` of the demands reads them of refused calls too.
 #[derive(Clone, Copy)]
 pub struct Outcome {
     pub answer: Answer,
@@ -46,10 +41,9 @@ pub struct Outcome {
 pub(crate) fn finished(instrument: Instrument, port: Port, taken: usize, written: usize) -> Outcome
     ensures { result ≡ done (record { instrument = instrument; port = port }) taken written }
 {
-    let state = State { instrument, port };
     Outcome {
         answer: Answer::Accepted,
-        state,
+        state: State { instrument, port },
         taken,
         written,
     }
@@ -72,16 +66,18 @@ impl State {
     pub(crate) fn admits(self, least: usize, room: usize) -> bool
         ensures { result ≡ admits self least room }
     {
-        self.is_within() & (least <= room)
+        self.is_within() && least <= room
     }
 
     // The refusal of such a call: a broken state is told before a short output.
     pub(crate) fn turned_away(self) -> Outcome
         ensures { result ≡ turned_away self }
     {
-        if self.is_within() {
-            return self.with_answer(Answer::ShortOutput);
-        }
-        self.with_answer(Answer::BrokenState)
+        let answer = if self.is_within() {
+            Answer::ShortOutput
+        } else {
+            Answer::BrokenState
+        };
+        self.with_answer(answer)
     }
 }

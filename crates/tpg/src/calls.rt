@@ -1,5 +1,7 @@
 // The calls that take no bytes: a fresh box, a reading, ticks, a power cycle.
 ghost use Rattle.std.specs.Prelude.{◌≡◌, ◌≤◌, ◌*◌, length};
+ghost use Rattle.text.specs.Page.{page, puts};
+ghost use Rattle.instrument.specs.Replies.{stream_text};
 ghost use Rattle.tpg.specs.Answers.{answer, handed, least_output};
 ghost use Rattle.tpg.specs.States.{fresh_box};
 ghost use Rattle.tpg.specs.Steps.{over};
@@ -10,8 +12,8 @@ use crate::answers::{Answer, Outcome, finished};
 use gauges::reading::Reading;
 use instrument::Instrument;
 use numbers::value::Value;
-use settings::model::{Model, Numbered};
-use text::append;
+use settings::model::Model;
+use text::writer::Writer;
 
 // What a call without an output asks for.
 const NO_OUTPUT: usize = 0;
@@ -24,19 +26,13 @@ fn made(model: Model, serial: u32, answer: Answer) -> Outcome
 }
 
 impl State {
-    // A box of the model with that number; where there is none, or the serial is too long, a fresh 361 comes with the refusal.
+    // A box of the model with that number; without one, or with too long a serial, a fresh 361 comes with the refusal.
     pub fn fresh(number: u32, serial: u32) -> Outcome
         ensures { result ≡ fresh_call number serial }
     {
-        let numbered = Model::numbered(number);
-        match numbered {
-            Numbered::One(model) => {
-                if serial <= Instrument::MOST_SERIAL {
-                    return made(model, serial, Answer::Accepted);
-                }
-                made(Model::Tpg361, 0, Answer::NoModel)
-            }
-            Numbered::NoModel => made(Model::Tpg361, 0, Answer::NoModel),
+        match Model::try_from(number) {
+            Ok(model) if serial <= Instrument::MOST_SERIAL => made(model, serial, Answer::Accepted),
+            _ => made(Model::Tpg361, 0, Answer::NoModel),
         }
     }
 
@@ -44,34 +40,38 @@ impl State {
     fn with_reading(self, channel: u8, r: Reading) -> Outcome
         ensures { result ≡ handed (answer 0) (with_reading self channel r) }
     {
-        let before = self.instrument;
-        let port = self.port;
-        let instrument = before.measured(channel, r);
-        finished(instrument, port, 0, 0)
+        finished(self.instrument.measured(channel, r), self.port, 0, 0)
     }
 
     // A reading of a channel, from 1 on.
     pub fn reading(self, channel: u8, kind: u8, status: u8, mantissa: i32, exponent: i32) -> Outcome
         ensures { result ≡ reading_call self channel (record { kind = kind; status = status; value = record { mantissa = mantissa; exponent = exponent } }) }
     {
-        let instrument = self.instrument;
-        let model = instrument.model;
-        let value = Value { mantissa, exponent };
+        if !self.admits(NO_OUTPUT, 0) {
+            return self.with_answer(Answer::BrokenState);
+        }
+        let model = self.instrument.model;
+        if !(1..=model.channels()).contains(&(channel as usize)) {
+            return self.with_answer(Answer::NoChannel);
+        }
         let r = Reading {
             kind,
             status,
-            value,
+            value: Value { mantissa, exponent },
         };
-        if self.admits(NO_OUTPUT, 0) {
-            if (1 <= channel) & ((channel as usize) <= model.channels()) {
-                if r.is_within(model.kinds()) {
-                    return self.with_reading(channel - 1, r);
-                }
-                return self.with_answer(Answer::BadReading);
-            }
-            return self.with_answer(Answer::NoChannel);
+        if !r.is_within(model.kinds()) {
+            return self.with_answer(Answer::BadReading);
         }
-        self.with_answer(Answer::BrokenState)
+        self.with_reading(channel - 1, r)
+    }
+
+    // The line of the stream put at the front of a room of its own; how long it is.
+    fn stream_line(self, line: &mut [u8]) -> usize
+        ensures { page line.new result ≡ puts (page line.old 0) (stream_text self.instrument) }
+    {
+        let mut written = Writer::new(line, 0);
+        self.instrument.stream_line(&mut written);
+        written.at()
     }
 
     // The ticks of a box that has room for a line of the stream at each (`stream_length`); no tick changes the line.
@@ -79,22 +79,19 @@ impl State {
         requires { least_output * count ≤ length out.old }
         ensures { (result ≡ all_counted self count) × (out.new ≡ over (ticks_text self count) out.old) }
     {
-        let instrument = self.instrument;
+        // fixed memory, and made once: a line at each tick would cost its conversions each time
         let mut line = [0u8; State::LEAST_OUTPUT];
-        let n = instrument.stream_line(&mut line, 0);
+        let n = self.stream_line(&mut line);
         let mut port = self.port;
-        let mut written: usize = 0;
-        let mut i: u8 = 0;
-        while i < count {
+        let mut sent = Writer::new(out, 0);
+        for _ in 0..count {
             let t = port.tick();
-            let next = t.port;
-            port = next;
-            i += 1;
+            port = t.port;
             if t.due {
-                written = append(out, written, &line[..n]);
+                sent.append(&line[..n]);
             }
         }
-        finished(instrument, port, 0, written)
+        finished(self.instrument, port, 0, sent.at())
     }
 
     // Ticks of 100 ms, as many as count says.
@@ -102,9 +99,10 @@ impl State {
         ensures { (result ≡ ticks_call self count (length out.old)) × (out.new ≡ over (ticks_bytes self count (length out.old)) out.old) }
     {
         if self.admits(State::LEAST_OUTPUT * (count as usize), out.len()) {
-            return self.advance(count, out);
+            self.advance(count, out)
+        } else {
+            self.turned_away()
         }
-        self.turned_away()
     }
 
     // One tick of 100 ms.
@@ -118,12 +116,14 @@ impl State {
     pub fn power_cycle(self) -> Outcome
         ensures { result ≡ cycle_call self }
     {
-        let instrument = self.instrument;
-        let model = instrument.model;
-        let saved = instrument.saved;
-        if self.admits(NO_OUTPUT, 0) {
-            return State::start(model, instrument.serial, saved).with_answer(Answer::Accepted);
+        if !self.admits(NO_OUTPUT, 0) {
+            return self.with_answer(Answer::BrokenState);
         }
-        self.with_answer(Answer::BrokenState)
+        State::start(
+            self.instrument.model,
+            self.instrument.serial,
+            self.instrument.saved,
+        )
+        .with_answer(Answer::Accepted)
     }
 }

@@ -1,6 +1,6 @@
 // Bytes from the host: the run over them while there is room.
 ghost use Rattle.std.specs.Prelude.{◌≡◌, length};
-ghost use Rattle.text.specs.Page.{page, puts};
+ghost use Rattle.text.specs.Writing.{Wrote};
 ghost use Rattle.tpg.specs.Steps.{line_text, over};
 ghost use Rattle.tpg.specs.Calls.{hosted, host_text, host_call, host_bytes, byte_call, byte_bytes};
 
@@ -9,18 +9,15 @@ use crate::answers::{Outcome, finished};
 use lines::verdict::Verdict;
 use ports::Event;
 use ports::typing::is_typed;
-use text::append;
 use text::control::{ACK, CR, ENQ, LF, NAK};
+use text::writer::Writer;
 
 // What is sent where a line has ended.
-fn line_text(out: &mut [u8], at: usize, v: Verdict) -> usize
-    ensures { page out.new result ≡ puts (page out.old at) (line_text v) }
+fn write_line_text(out: &mut Writer, v: Verdict)
+    ensures { Wrote out.old out.new (line_text v) }
 {
-    match v {
-        Verdict::Asks(_) => append(out, at, &[ACK, CR, LF]),
-        Verdict::Writes(_, _) => append(out, at, &[ACK, CR, LF]),
-        Verdict::Refused(_) => append(out, at, &[NAK, CR, LF]),
-    }
+    let first = if v.is_ok() { ACK } else { NAK };
+    out.append(&[first, CR, LF]);
 }
 
 impl State {
@@ -31,51 +28,46 @@ impl State {
         let mut instrument = self.instrument;
         let mut port = self.port;
         let mut taken: usize = 0;
-        let mut written: usize = 0;
+        let mut sent = Writer::new(out, 0);
+        // by hand: a turn takes one byte or a whole run
         while taken < input.len() {
             // nothing sent for a byte is longer (`event_length`): with this room no reply is cut
-            if out.len() - written < State::LEAST_OUTPUT {
-                return finished(instrument, port, taken, written);
+            if sent.free() < State::LEAST_OUTPUT {
+                return finished(instrument, port, taken, sent.at());
             }
-            let b = input[taken];
-            if is_typed(b) {
-                let typed = port.typed(input, taken);
-                let next = typed.port;
-                port = next;
-                taken = typed.at;
-            } else if b == ENQ {
-                let asking = port.settled();
-                let m = asking.enquiry();
-                let error = asking.error;
-                // a host polls by ENQs: a port that is then as it was is not copied
-                if asking.repeats() {
-                    port = asking;
-                } else {
-                    let next = asking.enquired();
-                    port = next;
+            match input[taken] {
+                b if is_typed(b) => {
+                    let typed = port.typed(input, taken);
+                    port = typed.port;
+                    taken = typed.at;
                 }
-                taken += 1;
-                written = instrument.reply(out, written, m, error);
-            } else {
-                let model = instrument.model;
-                let heard = port.byte(model, b);
-                let event = heard.event;
-                let next = heard.port;
-                port = next;
-                taken += 1;
-                match event {
-                    Event::Silent => {}
-                    Event::Line(v) => {
-                        written = line_text(out, written, v);
-                        instrument = instrument.applied(v);
-                    }
-                    Event::Reply(m, error) => {
-                        written = instrument.reply(out, written, m, error);
+                ENQ => {
+                    let asking = port.settled();
+                    // a host polls by ENQs: a port that is then as it was is not copied
+                    port = if asking.repeats() {
+                        asking
+                    } else {
+                        asking.enquired()
+                    };
+                    taken += 1;
+                    instrument.reply(&mut sent, asking.enquiry(), asking.error);
+                }
+                b => {
+                    let heard = port.byte(instrument.model, b);
+                    port = heard.port;
+                    taken += 1;
+                    match heard.event {
+                        Event::Silent => {}
+                        Event::Line(v) => {
+                            write_line_text(&mut sent, v);
+                            instrument = instrument.applied(v);
+                        }
+                        Event::Reply(m, error) => instrument.reply(&mut sent, m, error),
                     }
                 }
             }
         }
-        finished(instrument, port, taken, written)
+        finished(instrument, port, taken, sent.at())
     }
 
     // Bytes from the host.
@@ -83,9 +75,10 @@ impl State {
         ensures { (result ≡ host_call self input.now (length out.old)) × (out.new ≡ over (host_bytes self input.now (length out.old)) out.old) }
     {
         if self.admits(State::LEAST_OUTPUT, out.len()) {
-            return self.run(input, out);
+            self.run(input, out)
+        } else {
+            self.turned_away()
         }
-        self.turned_away()
     }
 
     // One byte from the host.

@@ -27,18 +27,16 @@ impl State {
     pub fn is_within(self) -> bool
         ensures { result ≡ state_within self }
     {
-        let instrument = self.instrument;
-        let port = self.port;
-        let model = instrument.model;
-        instrument.is_within() & port.is_within(model)
+        self.instrument.is_within() && self.port.is_within(self.instrument.model)
     }
 
     // A box that starts with a saved set.
     pub(crate) fn start(model: Model, serial: u32, saved: Settings) -> State
         ensures { result ≡ started_box model serial saved }
     {
-        let instrument = Instrument::started(model, serial, saved);
-        let port = Port::fresh(model);
-        State { instrument, port }
+        State {
+            instrument: Instrument::started(model, serial, saved),
+            port: Port::fresh(model),
+        }
     }
 }

@@ -12,15 +12,19 @@ returns-then-out-lt-LONGEST_LINE c =
     (c.handed.ensures ∙ h.0, h.1)
 
 pub slice_bounds-take-end : goal.slice_bounds-take-end
-slice_bounds-take-end c = sym (length-take-le c.read-len.result c.read-len.new.bytes (omega (arith, c.read-len.ensures.0, c.read-len.auto.bytes)))
+slice_bounds-take-end c =
+    let len = rw (← c.unwrap_or-len.ensures) at c.read.ensures in
+    sym (length-take-le c.unwrap_or-len.result c.read.new.bytes (omega (arith, len.0, c.read.auto.bytes)))
 
 pub spread-written-requires : goal.spread-written-requires
 spread-written-requires c =
+    let len = rw (← c.unwrap_or-len.ensures) at c.read.ensures in
     let a = c.args in
     let room = c.if-out-lt-LONGEST_LINE.false in
-    (few a.state a.line.now a.out.now room _ c.read-len.ensures.1 c.take-told.result _ c.take-told.ensures, omega (arith, room, kept a.state a.line.now a.out.now room _ c.read-len.ensures.1 c.take-told.result _ c.take-told.ensures))
+    (few a.state a.line.now a.out.now room _ len.1 c.take-told.result _ c.take-told.ensures, omega (arith, room, kept a.state a.line.now a.out.now room _ len.1 c.take-told.result _ c.take-told.ensures))
 
 pub returns : goal.returns
 returns c =
+    let len = rw (← c.unwrap_or-len.ensures) at c.read.ensures in
     let a = c.args in
-    answered a.state a.line.now a.out.now c.if-out-lt-LONGEST_LINE.false _ c.read-len.ensures.1 c.take-told.result _ c.take-told.ensures _ _ _ c.handed-2.ensures c.spread-written.ensures.0 c.spread-written.ensures.1
+    answered a.state a.line.now a.out.now c.if-out-lt-LONGEST_LINE.false _ len.1 c.take-told.result _ c.take-told.ensures _ _ _ c.handed-2.ensures c.spread-written.ensures.0 c.spread-written.ensures.1

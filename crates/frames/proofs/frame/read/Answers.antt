@@ -1,73 +1,54 @@
 -- The pairs read so far are the first bytes; the rest of the line is read from here.
-use mathlib.Core.Bool.{and-eq-true_iff}
-use Prim.Native.Nat.{◌/◌}
 use mathlib.Core.Path.{◌≡◌, sym, ◌∙◌}
 use native.Mathlib.Omega.{arith}
-use borrow.Author.Tests.{ltb-true}
 use lib.ListN.{length}
-use lib.Dec.{ltb}
-use Rattle.text.proofs.HexDigits.{odd_not_hex}
-use Rattle.frames.proofs.HexReading.{start, step, spoilt, ended, not_read, too_long}
+use Rattle.std.proofs.lemmas.Bool.Decides.{nat_tests}
+use Prim.Native.Nat.{◌%◌}
+use Rattle.text.proofs.HexDigits.{odd_not_hex, value_below}
+use Rattle.frames.proofs.HexReading.{step, spoilt_high, spoilt_low, ended, not_read, too_long}
 use Rattle.frames.proofs.frame.read.Goals as goal
+use Rattle.frames.proofs.frame.read.Goals.{then-not-is_empty-via-then-not-is_empty, then-not-is_empty-via-else-not-is_empty+then-pairs-gt-LONGEST_FRAME}
 
-pub returns-then-line-gt-MOST_DIGITS : goal.returns-then-line-gt-MOST_DIGITS
-returns-then-line-gt-MOST_DIGITS c = (omega arith, too_long c.args.line.now c.if-line-gt-MOST_DIGITS.true)
-
-pub returns-then-line-eq1 : goal.returns-then-line-eq1
-returns-then-line-eq1 c =
-    let line = c.args.line.now in
-    (omega arith, not_read line (odd_not_hex line c.if-line-eq1.true))
-
-pub loop-i-init : goal.loop-i-init
-loop-i-init c =
-    start c.args.line.now c.args.bytes.now _ (omega (arith, c.if-line-eq1.false)) (omega (arith, c.if-line-gt-MOST_DIGITS.false)) c.requires
-
-pub overflow_mul-i : goal.overflow_mul-i
-overflow_mul-i c = omega (arith, c.loop-i.invariant.short, c.loop-i-test.true)
-
-pub bounds-line-i : goal.bounds-line-i
-bounds-line-i c = omega (arith, c.loop-i.invariant.whole, c.loop-i-test.true)
-
-pub overflow_mul-i-in-loop-i : goal.overflow_mul-i-in-loop-i
-overflow_mul-i-in-loop-i c = omega (arith, c.loop-i.invariant.short, c.loop-i-test.true)
-
-pub overflow_add-i : goal.overflow_add-i
-overflow_add-i c = omega (arith, c.loop-i.invariant.short, c.loop-i-test.true)
-
-pub bounds-line-i-in-loop-i : goal.bounds-line-i-in-loop-i
-bounds-line-i-in-loop-i c = omega (arith, c.loop-i.invariant.whole, c.loop-i-test.true)
+pub returns-then-not-is_empty : goal.returns-then-not-is_empty
+returns-then-not-is_empty c =
+    let line = c.args.line.now in (
+      omega arith,
+      elim c.then-not-is_empty.branch [
+        | then-not-is_empty-via-then-not-is_empty w ↦ not_read line (odd_not_hex line (let x : length line % 2 ≡ 1 = grind (arith, nat_tests) in x))
+        | then-not-is_empty-via-else-not-is_empty+then-pairs-gt-LONGEST_FRAME w ↦ too_long line (omega (arith, c.as_chunks.ensures.front_len, w.if-pairs-gt-LONGEST_FRAME.true))
+      ],
+    )
 
 pub overflow_mul-bytes : goal.overflow_mul-bytes
-overflow_mul-bytes c =
-    let d = (and-eq-true_iff (ltb c.value_of-high.result 16) (ltb c.value_of-low.result 16)).0 c.if-high-low.true in
-    omega (arith, ltb-true c.value_of-high.result 16 d.0)
+overflow_mul-bytes c = omega (arith, value_below _ _ (sym c.value_of.ensures ∙ c.in_ok-value_of.was))
 
 pub overflow_add-bytes : goal.overflow_add-bytes
 overflow_add-bytes c =
-    let d = (and-eq-true_iff (ltb c.value_of-high.result 16) (ltb c.value_of-low.result 16)).0 c.if-high-low.true in
-    omega (arith, ltb-true c.value_of-high.result 16 d.0, ltb-true c.value_of-low.result 16 d.1)
-
-pub bounds-bytes-i : goal.bounds-bytes-i
-bounds-bytes-i c =
-    omega (arith, c.loop-i.invariant.places, c.loop-i.invariant.short, c.loop-i-test.true)
+    omega (arith, value_below _ _ (sym c.value_of.ensures ∙ c.in_ok-value_of.was), value_below _ _ (sym c.value_of-in-loop-i.ensures ∙ c.in_ok-bytes.was))
 
 pub loop-i-preserved : goal.loop-i-preserved
 loop-i-preserved c =
-    rw (c.value_of-high.ensures, c.value_of-low.ensures) (step c.loop-i.invariant c.loop-i-test.true (rw (← c.value_of-high.ensures, ← c.value_of-low.ensures) c.if-high-low.true))
+    step c.loop-i.invariant (omega (arith, c.loop-i-test.true, c.as_chunks.ensures.front_len)) _ c.as_chunks.ensures.front _ _
+    (sym c.value_of.ensures ∙ c.in_ok-value_of.was) (sym c.value_of-in-loop-i.ensures ∙ c.in_ok-bytes.was)
 
-pub shape_of-bytes-else-high-low : goal.shape_of-bytes-else-high-low
-shape_of-bytes-else-high-low c =
-    c.loop-i.invariant.places ∙ sym c.requires
+pub returns-in_err-value_of : goal.returns-in_err-value_of
+returns-in_err-value_of c =
+    rw c.from_residual.ensures (
+      omega arith,
+      spoilt_high c.loop-i.invariant (omega (arith, c.loop-i-test.true, c.as_chunks.ensures.front_len)) _ c.as_chunks.ensures.front
+          (sym c.value_of.ensures ∙ c.in_err-value_of.was),
+    )
 
-pub returns-else-high-low : goal.returns-else-high-low
-returns-else-high-low c =
-    (omega arith, spoilt c.loop-i.invariant c.loop-i-test.true (rw (← c.value_of-high.ensures, ← c.value_of-low.ensures) c.if-high-low.false))
-
-pub shape_of-bytes : goal.shape_of-bytes
-shape_of-bytes c = c.loop-i.invariant.places ∙ sym c.requires
+pub returns-in_err-bytes : goal.returns-in_err-bytes
+returns-in_err-bytes c =
+    rw c.from_residual-in_err-bytes.ensures (
+      omega arith,
+      spoilt_low c.loop-i.invariant (omega (arith, c.loop-i-test.true, c.as_chunks.ensures.front_len)) _ c.as_chunks.ensures.front
+          (sym c.value_of-in-loop-i.ensures ∙ c.in_err-bytes.was),
+    )
 
 pub returns : goal.returns
 returns c =
     let r = c.loop-i.invariant in
-    let e : length c.args.line.now / 2 ≡ c.loop-i.i = omega (arith, r.low, c.loop-i-test.false) in
-    (r.short, rw e (ended r c.loop-i-test.false))
+    let e : length c.as_chunks.result.0.now ≡ c.loop-i.i = omega (arith, r.low, c.loop-i-test.false, c.as_chunks.ensures.front_len) in
+    rw e (omega (arith, r.low, r.short), ended r (omega (arith, e, c.as_chunks.ensures.front_len)))

@@ -1,20 +1,21 @@
 -- Each byte that names a model, and any other.
-use borrow.Author.Tests.{eq-eqb, ne_eqb}
+use native.Mathlib.Omega.{arith}
+use Rattle.std.proofs.lemmas.Bool.Decides.{nat_tests}
 use Rattle.frames.specs.Frames.{model_number}
 use Rattle.frames.proofs.taking.model_number.Goals as goal
 
-pub returns-then-byte-eq1 : goal.returns-then-byte-eq1
+pub returns-in-1 : goal.returns-in-1
 unfolding model_number
-returns-then-byte-eq1 c = rw (eq-eqb _ _ c.if-byte-eq1.true)
+returns-in-1 c = grind (arith, nat_tests)
 
-pub returns-then-byte-eq2 : goal.returns-then-byte-eq2
+pub returns-in-2 : goal.returns-in-2
 unfolding model_number
-returns-then-byte-eq2 c = rw (ne_eqb _ _ c.if-byte-eq1.false, eq-eqb _ _ c.if-byte-eq2.true)
+returns-in-2 c = grind (arith, nat_tests)
 
-pub returns-then-byte-eq3 : goal.returns-then-byte-eq3
+pub returns-in-3 : goal.returns-in-3
 unfolding model_number
-returns-then-byte-eq3 c = rw (ne_eqb _ _ c.if-byte-eq1.false, ne_eqb _ _ c.if-byte-eq2.false, eq-eqb _ _ c.if-byte-eq3.true)
+returns-in-3 c = grind (arith, nat_tests)
 
-pub returns : goal.returns
+pub returns-in_default : goal.returns-in_default
 unfolding model_number
-returns c = rw (ne_eqb _ _ c.if-byte-eq1.false, ne_eqb _ _ c.if-byte-eq2.false, ne_eqb _ _ c.if-byte-eq3.false)
+returns-in_default c = grind (arith, nat_tests)

@@ -1,66 +1,67 @@
--- Each form by its test, with the tests before it.
-use mathlib.Core.Bool.{and-eq-true_iff}
-use mathlib.Core.Path.{refl, ◌∙◌, ap}
+-- Each arm's pattern is the test of its form.
+use Prim.Native.Nat.{ℕ, ◌≤◌, ◌<◌}
+use mathlib.Core.List.{List}
+use mathlib.Core.Path.{◌≡◌, refl, ap, ◌∙◌}
 use native.Mathlib.Omega.{arith}
-use borrow.Author.Tests.{leb-true, eqb-true}
-use lib.ListN.{length}
-use lib.Dec.{leb, eqb}
-use Rattle.frames.specs.Frames.{longest_frame}
-use Rattle.frames.proofs.Calling.{some_first, told_call, cycle_told}
-use Rattle.frames.proofs.Forms.{to_host, to_reading, to_ticks, to_fresh, to_cycle, to_none, handed_on, unsent, reading_unsent, fresh_unsent}
+use Rattle.std.proofs.lemmas.Bool.Decides.{nat_tests}
+use mir.Syntax.{w32}
+use mir.Facts.{to_z-of_z}
+use lib.ListN.{length, get_or, drop}
+use Rattle.tpg.specs.Steps.{over}
+use Rattle.tpg.specs.Calls.{cycle_call}
+use Rattle.frames.specs.Frames.{no_frame, silent, host_frame, reading_frame, ticks_frame, fresh_frame, framed}
+use Rattle.frames.proofs.Calling.{behind, told_call, host_told, ticks_told, cycle_told, reading_told}
+use Rattle.frames.proofs.Forms.{handed_on, unsent, reading_unsent, fresh_unsent}
 use Rattle.frames.proofs.taking.take.Goals as goal
 
-pub take_host-requires : goal.take_host-requires
-take_host-requires c =
-    let f = c.args.frame.now in
-    let t = (and-eq-true_iff (eqb c.first_of-first.result 1) (leb (length f) longest_frame)).0 c.if-first-len.true in
-    (some_first f 0 (rw (← c.first_of-first.ensures) t.0), leb-true (length f) longest_frame t.1, c.requires)
-
-pub returns-then-first-len : goal.returns-then-first-len
-returns-then-first-len c =
+pub returns-in-1 : goal.returns-in-1
+unfolding framed
+returns-in-1 c =
     let a = c.args in
-    handed_on _ _ (to_host a.state a.frame.now _ c.first_of-first.ensures c.if-first-len.true) _ _ _ c.take_host.ensures
+    let form : framed a.state a.frame.now ≡ host_frame a.state (drop 1 a.frame.now) = grind (arith, nat_tests) in
+    let few : length (drop 1 a.frame.now) < 61 = rw (behind a.frame.now) at c.if-host-lt-LONGEST_FRAME.true in
+    let h = host_told a.state (drop 1 a.frame.now) (length a.out.now) (omega (arith, few, c.requires)) (omega (arith, c.requires)) in
+    let e = rw (behind a.frame.now) at c.host.ensures in
+    handed_on _ _ form _ _ _ (c.frame_outcome-in-1.ensures ∙ ap told_call e.0 ∙ h.0, e.1 ∙ ap (λ (x : List ℕ). over x a.out.now) h.1)
 
-pub take_reading-requires : goal.take_reading-requires
-take_reading-requires c =
-    let f = c.args.frame.now in
-    eqb-true (length f) 9 ((and-eq-true_iff (eqb c.first_of-first.result 2) (eqb (length f) 9)).0 c.if-first-len-2.true).1
-
-pub returns-then-first-len-2 : goal.returns-then-first-len-2
-returns-then-first-len-2 c =
+pub returns-in-2 : goal.returns-in-2
+unfolding framed
+returns-in-2 c =
     let a = c.args in
-    handed_on _ _ (to_reading a.state a.frame.now _ c.first_of-first.ensures c.if-first-len.false c.if-first-len-2.true) _ _ _
-    (unsent _ _ a.out.now (reading_unsent a.state a.frame.now) c.take_reading.ensures)
+    let form : framed a.state a.frame.now ≡ reading_frame a.state a.frame.now = grind (arith, nat_tests) in
+    let plus_or_minus : get_or a.frame.now 4 0 ≤ 1 = grind (arith, nat_tests) in
+    let m = c.mantissa_of-mantissa in
+    let e = c.exponent_of in
+    let told = c.frame_outcome-in-2.ensures ∙ ap told_call c.reading.ensures
+    ∙ reading_told a.state a.frame.now _ _ plus_or_minus (to_z-of_z {w = w32} (record { sfits = m.type_inv }) ∙ m.ensures) (to_z-of_z {w = w32} (record { sfits = e.type_inv }) ∙ e.ensures) in
+    handed_on _ _ form _ _ _ (unsent _ _ a.out.now (reading_unsent a.state a.frame.now) told)
 
-pub bounds-frame-1 : goal.bounds-frame-1
-bounds-frame-1 c =
-    let f = c.args.frame.now in
-    omega (arith, eqb-true (length f) 2 ((and-eq-true_iff (eqb c.first_of-first.result 3) (eqb (length f) 2)).0 c.if-first-len-3.true).1)
-
-pub returns-then-first-len-3 : goal.returns-then-first-len-3
-returns-then-first-len-3 c =
+pub returns-in-3 : goal.returns-in-3
+unfolding framed
+returns-in-3 c =
     let a = c.args in
-    handed_on _ _ (to_ticks a.state a.frame.now _ c.first_of-first.ensures c.if-first-len.false c.if-first-len-2.false c.if-first-len-3.true) _ _ _ c.take_ticks.ensures
+    let form : framed a.state a.frame.now ≡ ticks_frame a.state (get_or a.frame.now 1 0) = grind (arith, nat_tests) in
+    let h = ticks_told a.state (get_or a.frame.now 1 0) (length a.out.now) (omega (arith, c.requires, c.type_inv.frame 1)) in
+    let e = c.ticks.ensures in
+    handed_on _ _ form _ _ _ (c.frame_outcome-in-3.ensures ∙ ap told_call e.0 ∙ h.0, e.1 ∙ ap (λ (x : List ℕ). over x a.out.now) h.1)
 
-pub bounds-frame-1-then-first-len-4 : goal.bounds-frame-1-then-first-len-4
-bounds-frame-1-then-first-len-4 c =
-    let f = c.args.frame.now in
-    omega (arith, eqb-true (length f) 2 ((and-eq-true_iff (eqb c.first_of-first.result 4) (eqb (length f) 2)).0 c.if-first-len-4.true).1)
-
-pub returns-then-first-len-4 : goal.returns-then-first-len-4
-returns-then-first-len-4 c =
+pub returns-in-4 : goal.returns-in-4
+unfolding framed
+returns-in-4 c =
     let a = c.args in
-    handed_on _ _ (to_fresh a.state a.frame.now _ c.first_of-first.ensures c.if-first-len.false c.if-first-len-2.false c.if-first-len-3.false c.if-first-len-4.true) _ _ _
-    (unsent _ _ a.out.now (fresh_unsent a.state _) c.take_fresh.ensures)
+    let form : framed a.state a.frame.now ≡ fresh_frame a.state (get_or a.frame.now 1 0) = grind (arith, nat_tests) in
+    handed_on _ _ form _ _ _ (unsent _ _ a.out.now (fresh_unsent a.state _) c.take_fresh.ensures)
 
-pub returns-then-first-len-5 : goal.returns-then-first-len-5
-returns-then-first-len-5 c =
+pub returns-in-5 : goal.returns-in-5
+unfolding framed
+returns-in-5 c =
     let a = c.args in
-    handed_on _ _ (to_cycle a.state a.frame.now _ c.first_of-first.ensures c.if-first-len.false c.if-first-len-2.false c.if-first-len-3.false c.if-first-len-4.false c.if-first-len-5.true) _ _ _
-    (unsent _ _ a.out.now refl (c.frame_outcome.ensures ∙ ap told_call c.power_cycle.ensures ∙ cycle_told a.state))
+    let form : framed a.state a.frame.now ≡ silent (cycle_call a.state) = grind (arith, nat_tests) in
+    handed_on _ _ form _ _ _ (unsent _ _ a.out.now refl (c.frame_outcome.ensures ∙ ap told_call c.power_cycle.ensures ∙ cycle_told a.state))
 
-pub returns : goal.returns
-returns c =
+pub returns-in_default : goal.returns-in_default
+unfolding framed reading_frame
+returns-in_default c =
     let a = c.args in
-    handed_on _ _ (to_none a.state a.frame.now _ c.first_of-first.ensures c.if-first-len.false c.if-first-len-2.false c.if-first-len-3.false c.if-first-len-4.false c.if-first-len-5.false) _ _ _
-    (unsent _ _ a.out.now refl c.no_frame.ensures)
+    let form : framed a.state a.frame.now ≡ no_frame a.state = grind (arith, nat_tests) in
+    handed_on _ _ form _ _ _ (unsent _ _ a.out.now refl c.no_frame.ensures)

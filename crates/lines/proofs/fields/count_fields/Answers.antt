@@ -1,14 +1,15 @@
--- The commas before the place i, and the fields from it on, are all fields.
-use native.Mathlib.Omega.{arith}
-use Rattle.lines.proofs.Walking.{fields_here, fields_on, fields_end}
+-- One more than commas (`more_commas`).
+use Rattle.std.proofs.Common.{rules, tests}
+use mathlib.Core.Path.{ap, ◌∙◌}
+use Prim.Native.Nat.{ℕ, ◌+◌}
+use Rattle.std.proofs.lemmas.Iterator.{YieldsList-from_slice}
+use Rattle.std.proofs.lemmas.Iterator.Consumers.{count_from_yields_List, YieldsList-from_filter}
+use Rattle.lines.proofs.Walking.{is_comma, more_commas}
 use Rattle.lines.proofs.fields.count_fields.Goals as goal
-use Rattle.lines.proofs.fields.count_fields.Goals.{then-s-i-eq44, else-s-i-eq44}
-
-pub loop-i-preserved : goal.loop-i-preserved
-loop-i-preserved c =
-    let l = c.loop-i in
-    let s = c.args.s.now in
-    elim c.if-s-i-eq44.branch [ then-s-i-eq44 w ↦ omega (arith, fields_here l.i s (omega arith) w.if-s-i-eq44.true) | else-s-i-eq44 w ↦ omega (arith, fields_on l.i s (omega arith) w.if-s-i-eq44.false) ]
 
 pub returns : goal.returns
-returns c = omega (arith, fields_end c.loop-i.i c.args.s.now (omega arith))
+returns c =
+    let s = c.args.s.now in
+    let n = count_from_yields_List c.filter.result c.count.result c.count.ensures.ran
+    (YieldsList-from_filter _ is_comma (YieldsList-from_slice s cc) c.filter.ensures.closure (λ x r q k. search (rules, tests))) in
+    ap (λ (k : ℕ). k + 1) n ∙ more_commas s

@@ -1,11 +1,8 @@
 -- `rounding::climb`: the tens counted, and those still to count, are those of the definition.
-use Prim.Native.Nat.{◌≤◌, ◌+◌, ◌-◌, ◌*◌, ◌^◌}
+use Prim.Native.Nat.{◌+◌, ◌-◌, ◌*◌, ◌^◌}
 use mathlib.Core.Path.{◌≡◌}
 use Rattle.numbers.specs.Rounding.{climb_within, climb}
 use Rattle.numbers.proofs.rounding.climb.Given as goal
 
 abbrev pub invariant-loop-tens : goal.invariant-loop-tens
-invariant-loop-tens l = (l.tens ≤ 18) × (l.size ≡ l.n * 10 ^ l.tens) × (l.tens + climb_within (18 - l.tens) l.size l.to ≡ climb l.n l.to)
-
-abbrev pub decreases-loop-tens : goal.decreases-loop-tens
-decreases-loop-tens l = 18 - l.tens
+invariant-loop-tens l = (l.size ≡ l.n * 10 ^ l.tens) × (l.tens + climb_within (18 - l.tens) l.size l.to ≡ climb l.n l.to)

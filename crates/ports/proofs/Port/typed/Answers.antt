@@ -1,29 +1,65 @@
--- What is left to type from the place i on, with the line so far, is what was to type from the start.
-use mathlib.Core.Path.{sym, ◌∙◌}
-use Rattle.ports.proofs.Characters.{start, kept, longer, spoils, ended, typing_other, typing_end}
+-- The run is typed byte by byte on the port as its first byte settles it (`settled_first`, `gathered_all`).
+use Prim.Native.Nat.{ℕ, ◌-◌, ◌<◌}
+use Rattle.std.proofs.Common.{◌≡◌, ◌+◌, ◌≤◌, length, drop, List, [], ◌∷◌, Option, Some, None, refl, sym, ap, ◌∙◌, arith, rules, tests}
+use Rattle.std.specs.Option.{MatchOption, unwrap_or}
+use Rattle.std.specs.List.{slice_range}
+use mathlib.Core.Logic.{◌⊎◌, inl, inr}
+use denote.Bor.{Bor}
+use lib.ListN.{length-drop, drop_of_length-le}
+use lib.Seq.{take_all}
+use Rattle.ports.specs.Walk.{typing, typed_all}
+use Rattle.ports.specs.declared.Port.{Port}
+use Rattle.ports.specs.declared.typing.Typed.{Typed}
+use Rattle.ports.proofs.Characters.{typed_count, settled_first, passed, gathered, gathered_all}
+use Rattle.ports.proofs.Port.typed.Goals.{then-b-ne-SPACE, else-b-ne-SPACE}
+use Rattle.ports.proofs.Port.typed.Goals.{After-typed_run-run}
 use Rattle.ports.proofs.Port.typed.Goals as goal
 
-pub loop-i-init : goal.loop-i-init
-loop-i-init c = start _ _ _
+-- nothing stands behind the end
+rest_is : (s : List ℕ) (from : ℕ) (r : Option (Bor (List ℕ))) (none : Bor (List ℕ)) → none.now ≡ []
+    → MatchOption r ((length s < from) ⊎ (length s < length s)) (λ x. (from ≤ length s) × (length s ≤ length s) × (x.now ≡ slice_range s from (length s)) × (length x.now + from ≡ length s))
+    → (unwrap_or r none).now ≡ drop from s
+rest_is s from None none e (inl h) = e ∙ sym (drop_of_length-le s {i = from} (omega arith))
+rest_is s from None none e (inr h) = absurd (omega arith)
+rest_is s from (Some x) none e h = h.2 ∙ take_all (length s - from) (drop from s) (omega (arith, length-drop from s))
 
-pub returns-then-not-is_typed : goal.returns-then-not-is_typed
-returns-then-not-is_typed c =
-    rw c.gathered.ensures
-    (ended c.loop-i.invariant (typing_other _ _ c.loop-i-test.true (sym c.is_typed.ensures ∙ c.if-not-is_typed.true)))
+run_is : (c : After-typed_run-run) → c.typed_run-run.result.now ≡ typing (drop c.args.from c.args.input.now)
+run_is c =
+    let a = c.args in
+    c.typed_run-run.ensures ∙ ap typing (ap (λ x. x.now) c.unwrap_or.ensures ∙ rest_is a.input.now a.from c.get.result _ refl c.get.ensures.lookup.0)
 
-pub loop-i-preserved-then-len-lt-PLACES : goal.loop-i-preserved-then-len-lt-PLACES
-loop-i-preserved-then-len-lt-PLACES c =
-    longer c.loop-i.invariant c.loop-i-test.true (sym c.is_typed.ensures ∙ c.if-not-is_typed.false)
-    c.if-b-bad.true c.if-len-lt-PLACES.true
+no_run : (p : Port) (from : ℕ) (run : List ℕ) → length run ≡ 0 → ◌≡◌ {A = Typed} (record { port = p; at = from }) (record { port = typed_all p run; at = from + length run })
+unfolding typed_all
+no_run p from [] e = let q : from ≡ from + 0 = omega arith in ap (λ n. record { port = p; at = n }) q
+no_run p from (b ∷ bs) e = absurd (omega arith)
 
-pub loop-i-preserved-else-len-lt-PLACES : goal.loop-i-preserved-else-len-lt-PLACES
-loop-i-preserved-else-len-lt-PLACES c =
-    spoils c.loop-i.invariant c.loop-i-test.true (sym c.is_typed.ensures ∙ c.if-not-is_typed.false)
-    c.if-b-bad.true c.if-len-lt-PLACES.false
+pub returns-then-is_empty : goal.returns-then-is_empty
+returns-then-is_empty c =
+    let a = c.args in
+    let e = run_is (goal.at.returns-then-is_empty c).After-typed_run-run in
+    no_run a.self a.from c.typed_run-run.result.now (search (rules, tests)) ∙ (λ i. record { port = typed_all a.self (e i); at = a.from + length (e i) })
 
-pub loop-i-preserved : goal.loop-i-preserved
-loop-i-preserved c =
-    kept c.loop-i.invariant c.loop-i-test.true (sym c.is_typed.ensures ∙ c.if-not-is_typed.false) c.if-b-bad.false
+pub loop-b-init : goal.loop-b-init
+loop-b-init c = rw c.settled-port.ensures (settled_first c.args.self c.typed_run-run.result.now (search (rules, tests)))
+
+pub loop-b-preserved : goal.loop-b-preserved
+loop-b-preserved c =
+    elim c.if-b-ne-SPACE.branch [
+      | then-b-ne-SPACE w ↦ rw (w.port-is, w.grow.ensures) (gathered c.loop-b.invariant c.loop-b-test.true w.if-b-ne-SPACE.true)
+      | else-b-ne-SPACE w ↦ rw w.port-is (passed c.loop-b.invariant c.loop-b-test.true w.if-b-ne-SPACE.false)
+    ]
+
+pub overflow_add-result : goal.overflow_add-result
+overflow_add-result c =
+    let a = c.args in
+    let e = ap length (run_is (goal.at.overflow_add-result c).After-typed_run-run) in
+    let some : 0 < length c.typed_run-run.result.now = search (rules, tests) in
+    let h : a.from + length c.typed_run-run.result.now ≤ length a.input.now = omega (arith, e, typed_count (drop a.from a.input.now), length-drop a.from a.input.now) in
+    search rules
 
 pub returns : goal.returns
-returns c = rw c.gathered-2.ensures (ended c.loop-i.invariant (typing_end _ _ c.loop-i-test.false))
+returns c =
+    let a = c.args in
+    let e = run_is (goal.at.returns c).After-typed_run-run in
+    let typed = gathered_all c.loop-b.invariant c.loop-b-test.false ∙ ap (typed_all a.self) e in
+    λ i. record { port = typed i; at = a.from + length (e i) }

@@ -1,11 +1,6 @@
--- What is left to type from the place i on, with the line so far, is what was to type from the start.
-use Prim.Native.Nat.{◌-◌}
-use lib.ListN.{length}
-use Rattle.ports.proofs.Characters.{Gathering}
+-- Where the port stands before the rest of the run.
+use Rattle.ports.proofs.Characters.{Gathered}
 use Rattle.ports.proofs.Port.typed.Given as goal
 
-abbrev pub invariant-loop-i : goal.invariant-loop-i
-invariant-loop-i l = Gathering l.initial.port l.input l.from l.port l.len l.bad l.i
-
-abbrev pub decreases-loop-i : goal.decreases-loop-i
-decreases-loop-i l = length l.input - l.i
+abbrev pub invariant-loop-b : goal.invariant-loop-b
+invariant-loop-b l = Gathered l.fn.self l.run l.port l.b-index

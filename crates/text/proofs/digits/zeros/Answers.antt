@@ -1,24 +1,23 @@
--- `digits::zeros`: what was passed are leading zeros, so the digits from here on are bare where all are.
-use mathlib.Core.Path.{refl, ◌∙◌}
-use borrow.Author.Rules.{rules}
+-- `digits::zeros`: as many as there are zeros in front of the last digit (`bare_zeros`).
+use mathlib.Core.Path.{◌≡◌, ◌∙◌}
 use native.Mathlib.Omega.{arith}
-use Rattle.text.proofs.Decimals.{bare_zero, bare_digit, bare_last}
+use borrow.Author.Rules.{rules}
+use borrow.Author.Tests.{tests}
+use lib.Dec.{eqb}
+use lib.ListN.{take, length}
+use Rattle.std.specs.List.{prefix_len}
+use Rattle.std.proofs.lemmas.Iterator.{YieldsList-from_slice}
+use Rattle.std.proofs.lemmas.Iterator.Consumers.{count_from_yields_List}
+use Rattle.std.proofs.lemmas.Iterator.Search.{YieldsList-from_take_while}
+use Rattle.std.proofs.lemmas.List.Folds.{length-prefix_len}
+use Rattle.text.proofs.Decimals.{bare_zeros}
 use Rattle.text.proofs.digits.zeros.Goals as goal
-
-pub loop-i-init : goal.loop-i-init
-loop-i-init c = (search rules, search rules, refl)
-
-pub returns-then-d-i-ne48 : goal.returns-then-d-i-ne48
-returns-then-d-i-ne48 c =
-    let l = c.loop-i in
-    (search rules, bare_digit c.args.d l.i (omega arith) c.if-d-i-ne48.true ∙ l.invariant.2)
-
-pub loop-i-preserved : goal.loop-i-preserved
-loop-i-preserved c =
-    let l = c.loop-i in
-    (search rules, search rules, bare_zero c.args.d l.i (omega arith) c.if-d-i-ne48.false ∙ l.invariant.2)
 
 pub returns : goal.returns
 returns c =
-    let l = c.loop-i in
-    (search rules, bare_last c.args.d l.i (omega arith) ∙ l.invariant.2)
+    let d = c.args.d in
+    let n : c.count.result ≡ prefix_len (λ b. eqb b 48) (take 9 d) =
+    count_from_yields_List c.take_while.result _ c.count.ensures.ran
+    (YieldsList-from_take_while _ (λ b. eqb b 48) (YieldsList-from_slice (take 9 d) cc) c.take_while.ensures.closure c.take_while.ensures.done (λ x b q k. search (rules, tests)))
+    ∙ length-prefix_len (λ b. eqb b 48) (take 9 d) in
+    (search rules, rw n (bare_zeros d 9 (search rules)))

@@ -1,23 +1,25 @@
 -- A range that holds the character leaves its difference; neither range leaves no digit.
 use native.Mathlib.Omega.{arith}
-use Rattle.ground.proofs.Cases.{range_low}
+use Rattle.std.proofs.lemmas.Bool.Decides.{nat_tests}
 use Rattle.text.specs.Hex.{value_of}
 use Rattle.text.proofs.hex.value_of.Goals as goal
 
-pub overflow_sub-result : goal.overflow_sub-result
-overflow_sub-result c = omega (arith, range_low)
-
-pub returns-then-digit : goal.returns-then-digit
+pub returns-in-48-to-57 : goal.returns-in-48-to-57
 unfolding value_of
-returns-then-digit c = rw c.if-digit.true
+returns-in-48-to-57 c = grind (arith, nat_tests)
 
-pub overflow_sub-result-then-digit-2 : goal.overflow_sub-result-then-digit-2
-overflow_sub-result-then-digit-2 c = omega (arith, range_low)
-
-pub returns-then-digit-2 : goal.returns-then-digit-2
+pub returns-in-65-to-70 : goal.returns-in-65-to-70
 unfolding value_of
-returns-then-digit-2 c = rw (c.if-digit.false, c.if-digit-2.true)
+returns-in-65-to-70 c = grind (arith, nat_tests)
 
-pub returns : goal.returns
+pub returns-in_default : goal.returns-in_default
 unfolding value_of
-returns c = rw (c.if-digit.false, c.if-digit-2.false)
+returns-in_default c = grind (arith, nat_tests)
+
+pub returns-in_default-2 : goal.returns-in_default-2
+unfolding value_of
+returns-in_default-2 c = grind (arith, nat_tests)
+
+pub returns-in_default-3 : goal.returns-in_default-3
+unfolding value_of
+returns-in_default-3 c = grind (arith, nat_tests)

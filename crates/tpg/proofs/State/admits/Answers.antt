@@ -2,6 +2,10 @@
 use Rattle.tpg.specs.Calls.{admits}
 use Rattle.tpg.proofs.State.admits.Goals as goal
 
-pub returns : goal.returns
+pub returns-then-is_within : goal.returns-then-is_within
 unfolding admits
-returns c = rw c.is_within.ensures
+returns-then-is_within c = rw (← c.if-is_within.ensures)
+
+pub returns-else-is_within : goal.returns-else-is_within
+unfolding admits
+returns-else-is_within c = rw (← c.if-is_within.ensures) c.if-is_within.false

@@ -2,17 +2,16 @@
 use borrow.Author.Tests.{le-leb, lt-leb}
 use Rattle.tpg.specs.Calls.{fresh_call}
 use Rattle.tpg.proofs.State.fresh.Goals as goal
+use Rattle.tpg.proofs.State.fresh.Goals.{in_default-via-in-Ok+else-serial-le-MOST_SERIAL, in_default-via-in_default}
 
-pub returns-then-serial-le-MOST_SERIAL : goal.returns-then-serial-le-MOST_SERIAL
+pub returns-in-Ok : goal.returns-in-Ok
 unfolding fresh_call
-returns-then-serial-le-MOST_SERIAL c =
-    rw (c.made.ensures, ← c.numbered-numbered.ensures, c.in-One.is, le-leb _ _ c.if-serial-le-MOST_SERIAL.true)
+returns-in-Ok c = rw (c.made.ensures, c.in-Ok.ensures, le-leb _ _ c.if-serial-le-MOST_SERIAL.true)
 
-pub returns-else-serial-le-MOST_SERIAL : goal.returns-else-serial-le-MOST_SERIAL
+pub returns-in_default : goal.returns-in_default
 unfolding fresh_call
-returns-else-serial-le-MOST_SERIAL c =
-    rw (c.made-in-One.ensures, ← c.numbered-numbered.ensures, c.in-One.is, lt-leb _ _ c.if-serial-le-MOST_SERIAL.false)
-
-pub returns-in-NoModel : goal.returns-in-NoModel
-unfolding fresh_call
-returns-in-NoModel c = rw (c.made-in-NoModel.ensures, ← c.numbered-numbered.ensures, c.in-NoModel.is)
+returns-in_default c =
+    elim c.in_default.branch [
+      | in_default-via-in-Ok+else-serial-le-MOST_SERIAL w ↦ rw (c.made-in_default.ensures, w.in-Ok.ensures, lt-leb _ _ w.if-serial-le-MOST_SERIAL.false)
+      | in_default-via-in_default w ↦ rw (c.made-in_default.ensures, w.in_default.ensures)
+    ]

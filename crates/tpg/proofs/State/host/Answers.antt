@@ -15,8 +15,8 @@ returns-then-admits c =
     let r = c.run.ensures in
     (r.0 ∙ e.0, r.1 ∙ e.1)
 
-pub returns : goal.returns
-returns c =
+pub returns-else-admits : goal.returns-else-admits
+returns-else-admits c =
     let a = c.args in
     let n = length a.out.now in
     let e = turned a.self least_output (hosted a.self a.input.now n) (host_text a.self a.input.now n) a.out.now

@@ -1,8 +1,10 @@
 -- What is left to take from here is what was left at the start, less what was taken.
-use mathlib.Core.Path.{◌≡◌, refl, sym, ◌∙◌}
-use Prim.Native.Nat.{◌-◌, ◌<◌}
+use mathlib.Core.Path.{◌≡◌, refl, sym, ap, ◌∙◌}
+use borrow.Author.Rules.{rules}
+use Prim.Native.Nat.{ℕ, ◌-◌, ◌<◌}
 use native.Mathlib.Omega.{arith}
 use lib.ListN.{length}
+use Rattle.text.specs.Page.{Page}
 use Rattle.ports.specs.Hearing.{asked}
 use Rattle.ports.proofs.Characters.{enq_heard, repeats_stays}
 use Rattle.tpg.specs.Answers.{least_output}
@@ -14,50 +16,55 @@ use Rattle.tpg.proofs.State.run.Goals.{then-repeats, else-repeats}
 pub loop-taken-init : goal.loop-taken-init
 loop-taken-init c =
     let a = c.args in
-    start a.self a.input.now a.out.now
+    let e = c.new-sent.ensures.page in record {
+      same_output = refl;
+      going = rw (ap (λ (p : Page). p.bytes) e, ap (λ (p : Page). p.at) e) (start a.self a.input.now a.out.now);
+    }
 
-pub overflow_sub-out : goal.overflow_sub-out
-overflow_sub-out c =
-    let g = c.loop-taken.invariant in
-    omega (arith, g.inside, length_kept g)
-
-pub shape_of-out-then-out-written-lt-LEAST_OUTPUT : goal.shape_of-out-then-out-written-lt-LEAST_OUTPUT
-shape_of-out-then-out-written-lt-LEAST_OUTPUT c = length_kept c.loop-taken.invariant
-
-pub returns-then-out-written-lt-LEAST_OUTPUT : goal.returns-then-out-written-lt-LEAST_OUTPUT
-returns-then-out-written-lt-LEAST_OUTPUT c =
+pub returns-then-free-lt-LEAST_OUTPUT : goal.returns-then-free-lt-LEAST_OUTPUT
+returns-then-free-lt-LEAST_OUTPUT c =
     let l = c.loop-taken in
-    let g = l.invariant in
-    let full : length c.args.out.now - l.written < least_output = omega (arith, length_kept g, c.if-out-written-lt-LEAST_OUTPUT.true) in
-    let e = ended g (taken_full _ _ _ full) in
-    (c.finished.ensures ∙ e.0, e.1)
+    let g = l.invariant.going in
+    let full = rw c.free.ensures at c.if-free-lt-LEAST_OUTPUT.true in
+    let n : length c.args.out.now - l.sent.at < least_output = omega (arith, length_kept g, full) in
+    let e = ended g (taken_full _ _ _ n) in
+    (rw c.at.ensures at c.finished.ensures ∙ e.0, search rules)
 
 pub loop-taken-smaller-then-is_typed : goal.loop-taken-smaller-then-is_typed
 loop-taken-smaller-then-is_typed c =
-    let h = farther c.loop-taken.invariant c.typed-typed.result c.typed-typed.ensures c.loop-taken-test.true (sym c.is_typed.ensures ∙ c.if-is_typed.true) in
+    let h = farther c.loop-taken.invariant.going c.typed-typed.result c.typed-typed.ensures c.loop-taken-test.true (sym c.is_typed.ensures ∙ c.if-is_typed.true) in
     omega (arith, h, c.loop-taken-test.true)
 
 pub loop-taken-preserved-then-is_typed : goal.loop-taken-preserved-then-is_typed
 loop-taken-preserved-then-is_typed c =
-    typed c.loop-taken.invariant c.typed-typed.result c.typed-typed.ensures c.if-out-written-lt-LEAST_OUTPUT.false
+    let free = rw c.free.ensures at c.if-free-lt-LEAST_OUTPUT.false in record {
+      same_output = c.loop-taken.invariant.same_output;
+      going = typed c.loop-taken.invariant.going c.typed-typed.result c.typed-typed.ensures free;
+    }
 
-pub loop-taken-smaller-then-b-eq-ENQ : goal.loop-taken-smaller-then-b-eq-ENQ
-loop-taken-smaller-then-b-eq-ENQ c = omega (arith, c.loop-taken-test.true)
+pub loop-taken-smaller-in-5 : goal.loop-taken-smaller-in-5
+loop-taken-smaller-in-5 c = omega (arith, c.loop-taken-test.true)
 
-pub loop-taken-preserved-then-b-eq-ENQ : goal.loop-taken-preserved-then-b-eq-ENQ
+pub loop-taken-preserved-in-5 : goal.loop-taken-preserved-in-5
 unfolding event_text
-loop-taken-preserved-then-b-eq-ENQ c =
+loop-taken-preserved-in-5 c =
+    let free = rw c.free.ensures at c.if-free-lt-LEAST_OUTPUT.false in
     let port : c.if-repeats.port ≡ (asked c.settled-asking.result).port =
     elim c.if-repeats.branch [
-      | then-repeats w ↦ w.port-is ∙ repeats_stays c.settled-asking.result (sym c.repeats.ensures ∙ w.if-repeats.true)
-      | else-repeats w ↦ w.port-is ∙ w.enquired-next.ensures
-    ] in
-    answered c.loop-taken.invariant _ c.loop-taken-test.true c.if-out-written-lt-LEAST_OUTPUT.false
-    (enq_heard _ _ _ _ _ _ c.if-b-eq-ENQ.true c.settled-asking.ensures c.enquiry-m.ensures port) _ _ _ _ refl refl c.reply-written.ensures
+      | then-repeats w ↦ w.port-is ∙ repeats_stays c.settled-asking.result (sym w.if-repeats.ensures)
+      | else-repeats w ↦ w.port-is ∙ w.enquired-port.ensures
+    ] in record {
+      same_output = c.reply.ensures.same_output ∙ c.loop-taken.invariant.same_output;
+      going = answered c.loop-taken.invariant.going _ c.loop-taken-test.true free
+          (enq_heard _ _ _ _ _ _ c.in-5.is c.settled-asking.ensures c.enquiry.ensures port) _ _ _ _ refl refl c.reply.ensures.written;
+    }
 
 pub loop-taken-preserved-in-Silent : goal.loop-taken-preserved-in-Silent
 loop-taken-preserved-in-Silent c =
-    silent c.loop-taken.invariant c.byte-heard.result c.loop-taken-test.true c.if-out-written-lt-LEAST_OUTPUT.false c.byte-heard.ensures c.in-Silent.is
+    let free = rw c.free.ensures at c.if-free-lt-LEAST_OUTPUT.false in record {
+      same_output = c.loop-taken.invariant.same_output;
+      going = silent c.loop-taken.invariant.going c.byte-heard.result c.loop-taken-test.true free c.byte-heard.ensures c.in-Silent.is;
+    }
 
 pub loop-taken-smaller-in-Line : goal.loop-taken-smaller-in-Line
 loop-taken-smaller-in-Line c = omega (arith, c.loop-taken-test.true)
@@ -65,8 +72,11 @@ loop-taken-smaller-in-Line c = omega (arith, c.loop-taken-test.true)
 pub loop-taken-preserved-in-Line : goal.loop-taken-preserved-in-Line
 unfolding event_text
 loop-taken-preserved-in-Line c =
-    answered c.loop-taken.invariant c.byte-heard.result c.loop-taken-test.true c.if-out-written-lt-LEAST_OUTPUT.false c.byte-heard.ensures _ _ _ _
-    c.in-Line.is c.applied-instrument.ensures c.line_text-written.ensures
+    let free = rw c.free.ensures at c.if-free-lt-LEAST_OUTPUT.false in record {
+      same_output = c.write_line_text.ensures.same_output ∙ c.loop-taken.invariant.same_output;
+      going = answered c.loop-taken.invariant.going c.byte-heard.result c.loop-taken-test.true free c.byte-heard.ensures _ _ _ _
+          c.in-Line.is c.applied-instrument.ensures c.write_line_text.ensures.written;
+    }
 
 pub loop-taken-smaller : goal.loop-taken-smaller
 loop-taken-smaller c = omega (arith, c.loop-taken-test.true)
@@ -74,14 +84,14 @@ loop-taken-smaller c = omega (arith, c.loop-taken-test.true)
 pub loop-taken-preserved : goal.loop-taken-preserved
 unfolding event_text
 loop-taken-preserved c =
-    answered c.loop-taken.invariant c.byte-heard.result c.loop-taken-test.true c.if-out-written-lt-LEAST_OUTPUT.false c.byte-heard.ensures _ _ _ _
-    c.in-Reply.is refl c.reply-written-in-Reply.ensures
-
-pub shape_of-out : goal.shape_of-out
-shape_of-out c = length_kept c.loop-taken.invariant
+    let free = rw c.free.ensures at c.if-free-lt-LEAST_OUTPUT.false in record {
+      same_output = c.reply-in-Reply.ensures.same_output ∙ c.loop-taken.invariant.same_output;
+      going = answered c.loop-taken.invariant.going c.byte-heard.result c.loop-taken-test.true free c.byte-heard.ensures _ _ _ _
+          c.in-Reply.is refl c.reply-in-Reply.ensures.written;
+    }
 
 pub returns : goal.returns
 returns c =
     let l = c.loop-taken in
-    let e = ended l.invariant (taken_end _ _ _ _ c.loop-taken-test.false) in
-    (c.finished-2.ensures ∙ e.0, e.1)
+    let e = ended l.invariant.going (taken_end _ _ _ _ c.loop-taken-test.false) in
+    (rw c.at-2.ensures at c.finished-2.ensures ∙ e.0, search rules)

@@ -20,8 +20,8 @@ returns-then-admits c =
     let r = c.advance.ensures in
     (r.0 ∙ e.0, r.1 ∙ e.1)
 
-pub returns : goal.returns
-returns c =
+pub returns-else-admits : goal.returns-else-admits
+returns-else-admits c =
     let a = c.args in
     let e = turned a.self (least_output * a.count) (all_counted a.self a.count) (ticks_text a.self a.count) a.out.now
     (sym c.admits.ensures ∙ c.if-admits.false) in

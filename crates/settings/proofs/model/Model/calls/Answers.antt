@@ -1,19 +1,18 @@
--- The name is spelled and the model knows it; where it is not spelled nobody asks.
--- whether the letters spell the name
-use mathlib.Core.Path.{◌≡◌, sym, ap, ◌∙◌}
-use mathlib.Core.List.{[], ◌∷◌}
+-- The letters of a name are compared one by one (`same_pointwise`).
+use mathlib.Core.Path.{◌≡◌, ap, ◌∙◌}
 use Rattle.settings.specs.Mnemonics.{name, same}
 use Rattle.settings.specs.declared.table.Entry.{Entry}
+use Rattle.settings.proofs.Names.{same_pointwise}
 use Rattle.settings.proofs.model.Model.calls.Goals as goal
-use Rattle.settings.proofs.model.Model.calls.Goals.{After-spells}
+use Rattle.settings.proofs.model.Model.calls.Goals.{After-eq}
 
-spelled : (c : goal.After-spells) → let a = c.args in same (name a.m) (a.a ∷ a.b ∷ a.c ∷ []) ≡ c.spells.result
-spelled c =
+alike : (c : goal.After-eq) → c.eq.result ≡ same (name c.args.m) c.args.word
+alike c =
     let a = c.args in
-    sym (c.spells.ensures ∙ ap (λ (e : Entry). same e.name (a.a ∷ a.b ∷ a.c ∷ [])) c.entry-e.ensures)
+    c.eq.ensures ∙ same_pointwise c.entry.result.name a.word ∙ ap (λ (e : Entry). same e.name a.word) c.entry.ensures
 
-pub returns-then-spells : goal.returns-then-spells
-returns-then-spells c = rw (spelled (goal.at.returns-then-spells c).After-spells ∙ c.if-spells.true) c.knows.ensures
+pub returns-then-eq : goal.returns-then-eq
+returns-then-eq c = rw (← alike (goal.at.returns-then-eq c).After-eq, c.if-eq.true) c.knows.ensures
 
-pub returns : goal.returns
-returns c = rw (spelled (goal.at.returns c).After-spells ∙ c.if-spells.false)
+pub returns-else-eq : goal.returns-else-eq
+returns-else-eq c = rw (← alike (goal.at.returns-else-eq c).After-eq, c.if-eq.false)

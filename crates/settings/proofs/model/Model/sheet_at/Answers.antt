@@ -1,39 +1,29 @@
--- The line that is left to find among those from j on is the line of the whole sheet.
-use Prim.Native.Nat.{ℕ, ◌+◌, ◌-◌}
-use mathlib.Core.Path.{◌≡◌, refl, sym, ap, ◌∙◌}
-use mathlib.Core.Bool.{Bool, cond}
-use lib.ListN.{get_or, drop, drop_of_length-le}
-use native.Mathlib.Omega.{arith}
-use Rattle.ground.specs.Members.{those}
+-- The line is that of the settings that the model takes (`filter_those`).
+use mathlib.Core.Path.{◌≡◌, sym, ap, ◌∙◌}
+use mathlib.Core.List.{List}
+use lib.ListN.{get_or}
+use borrow.Author.Rules.{rules}
+use borrow.Author.Tests.{tests}
+use Rattle.std.specs.List.{slice_get, filter}
+use Rattle.std.specs.Option.{unwrap_or}
+use Rattle.std.specs.Prelude.{Option}
+use Rattle.std.proofs.lemmas.Option.{unwrap_or-slice_get}
+use Rattle.std.proofs.lemmas.Iterator.{YieldsList-from_slice}
+use Rattle.std.proofs.lemmas.Iterator.Adapters.{option_map_id}
+use Rattle.std.proofs.lemmas.Iterator.Consumers.{YieldsList-from_copied, YieldsList-from_filter, YieldsList-at, nth_from_yields_List}
 use Rattle.settings.specs.Mnemonics.{settings_held, takes, sheet}
+use Rattle.settings.specs.declared.mnemonic.Setting.{Setting}
 use Rattle.settings.specs.declared.mnemonic.Setting.TheVariants.{Uni}
-use Rattle.settings.proofs.Sheets.{line_here, line_behind}
+use Rattle.settings.proofs.Names.{filter_those}
 use Rattle.settings.proofs.model.Model.sheet_at.Goals as goal
-use Rattle.settings.proofs.model.Model.sheet_at.Goals.{After-takes-taken}
-
--- whether the model takes the setting at j
-taken : (c : goal.After-takes-taken) → c.takes-taken.result ≡ takes c.args.self (get_or settings_held c.loop-j.j Uni)
-taken c = c.takes-taken.ensures ∙ ap (takes c.args.self) c.held_at-x.ensures
-
-pub loop-j-init : goal.loop-j-init
-unfolding sheet
-loop-j-init c = (omega arith, refl)
-
-pub returns-then-taken-left : goal.returns-then-taken-left
-returns-then-taken-left c =
-    let l = c.loop-j in
-    let a = c.args in
-    c.held_at-x.ensures
-    ∙ sym (line_here (takes a.self) settings_held l.j l.left Uni c.loop-j-test.true (rw (← taken (goal.at.returns-then-taken-left c).After-takes-taken) c.if-taken-left.true)) ∙ l.invariant.1
-
-pub loop-j-preserved : goal.loop-j-preserved
-loop-j-preserved c =
-    let l = c.loop-j in
-    let a = c.args in (
-      omega arith,
-      ap (λ (n : ℕ). get_or (those (takes a.self) (drop (l.j + 1) settings_held)) n Uni) (c.still_left-left.ensures ∙ ap (λ (b : Bool). cond b (l.left - 1) l.left) (taken (goal.at.loop-j-preserved c).After-takes-taken))
-          ∙ sym (line_behind (takes a.self) settings_held l.j l.left Uni c.loop-j-test.true (rw (← taken (goal.at.loop-j-preserved c).After-takes-taken) c.if-taken-left.false)) ∙ l.invariant.1,
-    )
 
 pub returns : goal.returns
-returns c = rw (drop_of_length-le settings_held c.loop-j-test.false) at c.loop-j.invariant.1
+unfolding sheet
+returns c =
+    let a = c.args in
+    let e : c.nth.result ≡ slice_get (filter (takes a.self) settings_held) a.i =
+    sym (option_map_id c.nth.result)
+    ∙ nth_from_yields_List c.nth.result _ a.i c.nth.ensures.ran
+    (YieldsList-from_filter _ (takes a.self) (YieldsList-at c.filter.ensures.source (YieldsList-from_copied (YieldsList-from_slice settings_held cc))) c.filter.ensures.closure (λ x b q k. search (rules, tests))) in
+    c.unwrap_or.ensures ∙ ap (λ (o : Option Setting). unwrap_or o Uni) e ∙ unwrap_or-slice_get (filter (takes a.self) settings_held) a.i Uni
+    ∙ ap (λ (l : List Setting). get_or l a.i Uni) (filter_those (takes a.self) settings_held)

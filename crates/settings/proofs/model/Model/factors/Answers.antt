@@ -1,5 +1,0 @@
--- So many factors.
-use Rattle.settings.proofs.model.Model.factors.Goals as goal
-
-pub returns : goal.returns
-returns c = rw c.factor.ensures

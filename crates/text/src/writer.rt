@@ -1,0 +1,58 @@
+// Bytes put into a lent output one after the other.
+ghost use Rattle.std.specs.Prelude.{◌≡◌, ◌-◌, ◌∷◌, [], length};
+ghost use Rattle.text.specs.Page.{page};
+ghost use Rattle.text.specs.Writing.{page_of, Wrote};
+
+// A lent output, and the place where its next byte goes.
+// No `Display`: a reply is bytes of the lent output, cut where its room ends, and `Wrote` says each; no String, no heap.
+#[derive(Drop)]
+pub struct Writer<'a> {
+    bytes: &'a mut [u8],
+    at: usize,
+}
+
+impl<'a> Writer<'a> {
+    // A writer that goes on from a place.
+    pub fn new(bytes: &'a mut [u8], at: usize) -> Writer<'a>
+        ensures same_output { result.bytes.ghost_name ≡ bytes.entry.ghost_name }
+        ensures page { page_of result ≡ page bytes.old at }
+    {
+        Writer { bytes, at }
+    }
+
+    // The place behind what was written.
+    pub fn at(&self) -> usize
+        ensures { result ≡ self.now.at }
+    {
+        self.at
+    }
+
+    // How many bytes there is still room for.
+    pub fn free(&self) -> usize
+        ensures { result ≡ length self.now.bytes.now - self.now.at }
+    {
+        self.bytes.len().saturating_sub(self.at)
+    }
+
+    // One byte more; past the end nothing changes.
+    pub fn put(&mut self, b: u8)
+        ensures { Wrote self.old self.new (b ∷ []) }
+    {
+        // not by `get_mut`: tried, and after it nothing is known of the other bytes
+        if self.at < self.bytes.len() {
+            self.bytes[self.at] = b;
+            self.at += 1;
+        }
+    }
+
+    // The bytes of s, as far as there is room.
+    pub fn append(&mut self, s: &[u8])
+        ensures { Wrote self.old self.new s.now }
+    {
+        if self.at < self.bytes.len() {
+            let n = s.len().min(self.bytes.len() - self.at);
+            self.bytes[self.at..self.at + n].copy_from_slice(&s[..n]);
+            self.at += n;
+        }
+    }
+}

@@ -17,7 +17,8 @@ use tpg::State;
 // Of an unfinished line so much is kept: one digit more than the longest frame has, so that it stays too long.
 const KEPT: usize = 2 * LONGEST_FRAME + 1;
 
-// The box, where the first line that is not answered begins (0 where none was), and how much is still to be written.
+// The box, where the first line that is not answered begins, and how much is still to be written.
+// Where none was answered that is 0 and no `None`: the walk goes on from there all the same.
 #[derive(Clone, Copy)]
 struct BlockOutcome {
     pub state: State,
@@ -33,7 +34,7 @@ fn answer_lines(state: State, block: &[u8], out: &mut [u8]) -> BlockOutcome
     let mut from: usize = 0;
     let mut at: usize = 0;
     let mut to = end_of(block, 0, LF);
-    // by hand: the place goes from mark to mark, and the loop stops where the output has no room
+    // by hand, no `split`: the unfinished tail is no line, and the loop stops where the output has no room
     while to < block.len() {
         if out.len() - at < LONGEST_LINE {
             return BlockOutcome {

@@ -80,19 +80,16 @@ module _ (s : State) (line out : List ℕ) where
   unfolding answer_call answer_line over
   refused h = rw (lt-leb longest_line (length out) h) (refl, refl)
 
-  module _ (room : longest_line ≤ length out) (f : List ℕ) (read : f ≡ read_bytes line) (t : FrameOutcome) (sent : List ℕ)
-      (e : (t ≡ frame_outcome (framed s f)) × (sent ≡ over (framed s f).bytes out)) where
+  module _ (room : longest_line ≤ length out) (t : FrameOutcome) (sent : List ℕ)
+      (e : (t ≡ frame_outcome (line_reply s line)) × (sent ≡ over (line_reply s line).bytes out)) where
     abbrev r : Exchange
     r = line_reply s line
 
-    same : framed s f ≡ r
-    same = ap (framed s) read ∙ read_enough s line
-
     told : t ≡ frame_outcome r
-    told = e.0 ∙ ap frame_outcome same
+    told = e.0
 
     laid : sent ≡ over r.bytes out
-    laid = e.1 ∙ ap (λ (q : Exchange). over q.bytes out) same
+    laid = e.1
 
     pub few : t.written ≤ most_sent
     few = omega (arith, ap (λ (x : FrameOutcome). x.written) told, framed_few s (bytes_of line) (bytes_small line 1))

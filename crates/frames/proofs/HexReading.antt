@@ -24,15 +24,15 @@ pub record Read (line bytes : List ℕ) (count i : ℕ) : Type 0 where
   pub digits : is_hex line ≡ is_hex (drop (2 * i) line)
   pub held : unhex line ≡ take i bytes ++ unhex (drop (2 * i) line)
 
-either : (t : Bool) → ◌≡◌ {A = List ℕ} [] (cond t [] [])
+either : (t : Bool) → ◌≡◌ {A = List ℕ} (cond t [] []) []
 either true = refl
 either false = refl
 
-pub not_read : (line : List ℕ) → is_hex line ≡ false → [] ≡ read_bytes line
+pub not_read : (line : List ℕ) → is_hex line ≡ false → read_bytes line ≡ []
 unfolding bytes_of
 not_read line none = rw none (either (leb (length line) (2 * longest_frame)))
 
-pub too_long : (line : List ℕ) → 2 * longest_frame < length line → [] ≡ read_bytes line
+pub too_long : (line : List ℕ) → 2 * longest_frame < length line → read_bytes line ≡ []
 too_long line long = rw (lt-leb (length line) (2 * longest_frame) long)
 
 -- a pair has the line's characters at its place
@@ -75,11 +75,11 @@ module _ {line bytes : List ℕ} {count i : ℕ} (r : Read line bytes count i) w
       held = r.held ∙ rw (next, p, q, add-one i, take-suc-set bytes i (16 * a + b) (omega (arith, r.places, r.short))) (sym (append_snoc (take i bytes) (16 * a + b) (unhex (drop (2 * suc i) line))));
     }
 
-    pub spoilt_high : value_of high ≡ None → [] ≡ read_bytes line
+    pub spoilt_high : value_of high ≡ None → read_bytes line ≡ []
     unfolding is_hex
     spoilt_high e = not_read line (r.digits ∙ rw (next, e))
 
-    pub spoilt_low : value_of low ≡ None → [] ≡ read_bytes line
+    pub spoilt_low : value_of low ≡ None → read_bytes line ≡ []
     unfolding is_hex
     spoilt_low e = not_read line (r.digits ∙ rw (next, e, and-false (is_some (value_of high))))
 

@@ -6,13 +6,13 @@ ghost use Rattle.frames.specs.Encoding.{exponent_of, mantissa_of};
 pub(crate) fn exponent_of(byte: u8) -> i32
     ensures { result ≡ exponent_of byte }
 {
-    byte.cast_signed() as i32
+    i32::from(byte.cast_signed())
 }
 
 // A mantissa from its sign and its three bytes, high first.
 pub(crate) fn mantissa_of(minus: bool, high: u8, middle: u8, low: u8) -> i32
     ensures { result ≡ mantissa_of minus high middle low }
 {
-    let m = u32::from_be_bytes([0, high, middle, low]) as i32;
+    let m = i32::from_be_bytes([0, high, middle, low]);
     if minus { -m } else { m }
 }

@@ -6,6 +6,7 @@ ghost use Rattle.tpg.specs.Steps.{over};
 ghost use Rattle.frames.specs.Frames.{answer_call, answer_line};
 
 use tpg::State;
+use tpg::answers::Answer;
 
 mod encoding;
 mod frame;
@@ -17,9 +18,6 @@ pub const LONGEST_LINE: usize = 2 * (1 + 255 * State::LEAST_OUTPUT) + 1;
 
 // The longest frame: its first byte and 60 host bytes.
 pub const LONGEST_FRAME: usize = 61;
-
-// What is answered where the output is shorter than the longest line.
-const SHORT_OUTPUT: u8 = 3;
 
 // The answer number of a frame, the box after it, and how many bytes stand in the output.
 // A number and no enum: `answer_call` promises the number, which the output line begins with.
@@ -45,12 +43,9 @@ pub fn answer(state: State, line: &[u8], out: &mut [u8]) -> FrameOutcome
     ensures { (result ≡ answer_call state line.now (length out.old)) × (out.new ≡ over (answer_line state line.now (length out.old)) out.old) }
 {
     if out.len() < LONGEST_LINE {
-        return handed(SHORT_OUTPUT, state, 0);
+        return handed(Answer::ShortOutput.number(), state, 0);
     }
-    // fixed memory: no crate of the engine allocates
-    let mut bytes = [0u8; LONGEST_FRAME];
-    let len = frame::read(line, &mut bytes).unwrap_or(0);
-    let told = taking::take(state, &bytes[..len], out);
+    let told = taking::take_line(state, line, out);
     let written = spread::spread(out, told.number, told.written);
     handed(told.number, told.state, written)
 }

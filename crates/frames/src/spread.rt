@@ -1,27 +1,32 @@
 // The bytes that a frame sent, turned into its output line.
 ghost use Rattle.std.specs.Prelude.{◌≡◌, [], ◌∷◌, ◌++◌, ◌+◌, ◌*◌, ◌≤◌, length, take};
 ghost use Rattle.text.specs.Control.{lf};
-ghost use Rattle.text.specs.Hex.{hex};
+ghost use Rattle.text.specs.Hex.{hex, hex_pair};
 ghost use Rattle.tpg.specs.Steps.{over};
 ghost use Rattle.frames.specs.Frames.{most_sent, longest_line};
 
 use text::control::LF;
 use text::hex::DIGITS;
 
+// The two digits of a byte.
+#[tactic(auto, unfolding(text::specs::Hex::digit_of))]
+fn pair(byte: u8) -> [u8; 2]
+    ensures { result ≡ hex_pair byte }
+{
+    let byte = usize::from(byte);
+    [DIGITS[byte / 16], DIGITS[byte % 16]]
+}
+
 // The first bytes of out become an output line. From the last one on, since a byte's digits stand behind it.
 pub(crate) fn spread(out: &mut [u8], number: u8, count: usize) -> usize
     requires { (count ≤ most_sent) × (longest_line ≤ length out.old) }
     ensures { (result ≡ 2 + 2 * count + 1) × (out.new ≡ over (hex (number ∷ take count out.old) ++ lf ∷ []) out.old) }
 {
-    let digits = DIGITS;
     for i in (0..count).rev() {
-        let byte = out[i] as usize;
-        out[2 + 2 * i] = digits[byte / 16];
-        out[3 + 2 * i] = digits[byte % 16];
+        let digits = pair(out[i]);
+        out[2 + 2 * i..4 + 2 * i].copy_from_slice(&digits);
     }
-    let first = number as usize;
-    out[0] = digits[first / 16];
-    out[1] = digits[first % 16];
+    out[..2].copy_from_slice(&pair(number));
     let end = 2 + 2 * count;
     out[end] = LF;
     end + 1

@@ -2,15 +2,16 @@
 ghost use Rattle.std.specs.Prelude.{◌≡◌, ◌≤◌, length};
 ghost use Rattle.tpg.specs.Answers.{number};
 ghost use Rattle.tpg.specs.Steps.{over};
-ghost use Rattle.frames.specs.Frames.{most_sent, no_frame, model_number, fresh_frame, framed};
+ghost use Rattle.frames.specs.Frames.{most_sent, no_frame, model_number, fresh_frame, framed, line_reply};
 ghost use Rattle.frames.specs.Walk.{frame_outcome};
 
 use crate::encoding::{exponent_of, mantissa_of};
-use crate::{FrameOutcome, LONGEST_FRAME, handed};
+use crate::{FrameOutcome, LONGEST_FRAME, frame, handed};
 use tpg::State;
 use tpg::answers::{Answer, Outcome};
 
 // The answer to a frame of other form.
+// Not an Answer: 255 stands in no row of the paper's table, and no call gives it.
 const NO_FRAME: u8 = 255;
 
 // What a call answered.
@@ -27,7 +28,9 @@ fn no_frame(state: State) -> FrameOutcome
     handed(NO_FRAME, state, 0)
 }
 
-// The number of the model that a byte names; no model has the number 0, and `fresh` refuses it as any other.
+// The number of the model that a byte names.
+// 0 and no Option: `model_number` promises it, which `fresh` refuses as any number that is no model's.
+#[tactic(auto, using(std::proofs::lemmas::Bool::Decides::nat_tests), unfolding(crate::specs::Frames::model_number))]
 fn model_number(byte: u8) -> u32
     ensures { result ≡ model_number byte }
 {
@@ -51,12 +54,12 @@ fn take_fresh(state: State, byte: u8) -> FrameOutcome
 }
 
 // The first byte says what is wanted, and how many bytes go with it.
-pub(crate) fn take(state: State, frame: &[u8], out: &mut [u8]) -> FrameOutcome
+fn take(state: State, frame: &[u8], out: &mut [u8]) -> FrameOutcome
     requires { most_sent ≤ length out.old }
     ensures { (result ≡ frame_outcome (framed state frame.now)) × (out.new ≡ over (framed state frame.now).bytes out.old) }
 {
-    match frame {
-        [1, host @ ..] if host.len() < LONGEST_FRAME => frame_outcome(state.host(host, out)),
+    let told = match frame {
+        [1, host @ ..] if host.len() < LONGEST_FRAME => state.host(host, out),
         [
             2,
             channel,
@@ -69,11 +72,25 @@ pub(crate) fn take(state: State, frame: &[u8], out: &mut [u8]) -> FrameOutcome
             exponent,
         ] => {
             let mantissa = mantissa_of(*sign == 1, *high, *middle, *low);
-            frame_outcome(state.reading(*channel, *kind, *status, mantissa, exponent_of(*exponent)))
+            state.reading(*channel, *kind, *status, mantissa, exponent_of(*exponent))
         }
-        [3, count] => frame_outcome(state.ticks(*count, out)),
-        [4, model] => take_fresh(state, *model),
-        [5] => frame_outcome(state.power_cycle()),
-        _ => no_frame(state),
+        [3, count] => state.ticks(*count, out),
+        [4, model] => return take_fresh(state, *model),
+        [5] => state.power_cycle(),
+        _ => return no_frame(state),
+    };
+    frame_outcome(told)
+}
+
+// A line's frame taken; a line that is none, or too long for one, is answered as a frame of other form.
+pub(crate) fn take_line(state: State, line: &[u8], out: &mut [u8]) -> FrameOutcome
+    requires { most_sent ≤ length out.old }
+    ensures { let r = line_reply state line.now in (result ≡ frame_outcome r) × (out.new ≡ over r.bytes out.old) }
+{
+    // fixed memory: no crate of the engine allocates
+    let mut bytes = [0u8; LONGEST_FRAME];
+    match frame::read(line, &mut bytes) {
+        Some(len) => take(state, &bytes[..len], out),
+        None => no_frame(state),
     }
 }

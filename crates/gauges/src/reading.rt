@@ -6,7 +6,7 @@ use numbers::value::Value;
 
 // The kind of gauge, its status, and its value in hPa.
 // Kind and status are numbers and no enums: `within_limits`, and so answer 5, speaks of readings with any.
-#[derive(Clone, Copy)]
+#[derive(Clone, Copy, PartialEq, Eq, Debug)]
 pub struct Reading {
     pub kind: u8,
     pub status: u8,
@@ -39,10 +39,7 @@ impl Reading {
         Reading {
             kind: Reading::KIND_NO_SENSOR,
             status: Reading::STATUS_NO_SENSOR,
-            value: Value {
-                mantissa: 0,
-                exponent: 0,
-            },
+            value: Value::ZERO,
         }
     }
 

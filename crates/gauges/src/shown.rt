@@ -10,8 +10,8 @@ use numbers::value::Value;
 use numerals::writing::value_bytes;
 use text::writer::Writer;
 
-// A reading as it is shown: its status, and its value in the unit chosen.
-#[derive(Clone, Copy)]
+// A reading as it is shown: its status, and its value in the unit chosen. The status is a number, as `Reading` has it.
+#[derive(Clone, Copy, PartialEq, Eq, Debug)]
 pub struct Shown {
     pub status: u8,
     pub value: Value,

@@ -4,8 +4,8 @@ use mathlib.Core.Path.{◌≡◌, refl, sym}
 use mathlib.Core.Bool.{Bool, beq, true, false, cond, not, ◌&&◌, ◌||◌, and-eq-true_iff}
 use mathlib.Core.Logic.{◌⊎◌, inl, inr}
 use native.Mathlib.Omega.{arith}
-use borrow.Author.Tests.{ltb-true, ltb-false, leb-true, le-leb, lt-leb, eq-eqb, ne_eqb, eqb-true, eqb-false, not-true}
-use lib.Dec.{leb, ltb, eqb}
+use borrow.Author.Tests.{ltb-true, ltb-false, leb-true, le-leb, lt-leb, not-true}
+use lib.Dec.{leb, ltb}
 use Rattle.ground.specs.Ranges.{in_range}
 
 pub below : (a b : ℕ) → (a < b) ⊎ (b ≤ a)
@@ -41,13 +41,6 @@ in_range_lem low high m h = let b = (and-eq-true_iff (leb low m) (leb m high)).0
 pub to_range : (low high m : ℕ) → low ≤ m → m ≤ high → in_range low high m ≡ true
 to_range low high m l h = rw (le-leb low m l, le-leb m high h)
 
--- one limit alone, as a rule by which `omega` reads the test whatever its limits are; the upper one behind another test
-pub range_low : (low high m : ℕ) → in_range low high m ≡ true → low ≤ m
-range_low low high m h = (in_range_lem low high m h).0
-
-pub range_high : (low high m : ℕ) (t : Bool) → t && in_range low high m ≡ true → m ≤ high
-range_high low high m t h = (in_range_lem low high m ((and-eq-true_iff t (in_range low high m)).0 h).1).1
-
 -- two tests, one of which holds, or neither
 pub either : {A : Type 0} (s t : Bool) (x y : A) → not s && not t ≡ false → cond s x (cond t x y) ≡ x
 either true t x y h = refl
@@ -56,14 +49,6 @@ either false false x y h = never (cc)
 
 pub neither : (s t : Bool) → not s && not t ≡ true → (s ≡ false) × (t ≡ false)
 neither s t h = let b = (and-eq-true_iff (not s) (not t)).0 h in (not-true s b.0, not-true t b.1)
-
--- two tests for equality that come to the same
-pub eqb_same : (a b c d : ℕ) → (a ≡ b → c ≡ d) → (c ≡ d → a ≡ b) → eqb a b ≡ eqb c d
-eqb_same a b c d f g = go (eqb a b) refl
-  where
-    go : (t : Bool) → eqb a b ≡ t → t ≡ eqb c d
-    go true e = sym (eq-eqb c d (f (eqb-true a b e)))
-    go false e = sym (ne_eqb c d (λ q. eqb-false a b e (g q)))
 
 -- at most is not more
 pub at_most : (a b : ℕ) → leb a b ≡ not (ltb b a)

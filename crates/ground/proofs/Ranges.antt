@@ -1,29 +1,8 @@
--- Tests over a range: of the places of a list, one after the other beside what was found so far; and of all numbers up to one.
-use Prim.Native.Nat.{ℕ, zero, suc, ◌+◌, ◌-◌, ◌≤◌, ◌<◌}
+-- Tests over a range: of all numbers up to one.
+use Prim.Native.Nat.{ℕ, zero, suc, ◌≤◌}
 use mathlib.Core.Path.{◌≡◌}
-use mathlib.Core.List.{List}
-use mathlib.Core.Bool.{Bool, true, ◌&&◌, and-true, and_assoc, and-eq-true_iff}
+use mathlib.Core.Bool.{Bool, true, ◌&&◌, and-eq-true_iff}
 use native.Mathlib.Omega.{arith}
-use native.Mathlib.Numerals.{add-one}
-use lib.ListN.{length, get_or, take, drop}
-use lib.Seq.{drop-cons}
-use Rattle.ground.specs.Members.{every}
-
--- ---- the places from i to b of a list
-
-module _ {A : Type 0} (p : A → Bool) (d : A) (l : List A) (i b : ℕ) (all : Bool) where
-  pub range_next : i < b → b ≤ length l
-      → all && p (get_or l i d) && every p (take (b - (i + 1)) (drop (i + 1) l)) ≡ all && every p (take (b - i) (drop i l))
-  unfolding every
-  range_next h g =
-      let q : b - i ≡ suc (b - (i + 1)) = omega arith in
-      rw (q, drop-cons l i d (omega arith), add-one i) (and_assoc all (p (get_or l i d)) (every p (take (b - suc i) (drop (suc i) l))))
-
-  pub range_end : b ≤ i → all && every p (take (b - i) (drop i l)) ≡ all
-  unfolding every
-  range_end h = let q : b - i ≡ 0 = omega arith in rw q (and-true all)
-
--- ---- all numbers up to n
 
 -- a test at each place up to n
 abbrev pub upto : ℕ → (ℕ → Bool) → Bool

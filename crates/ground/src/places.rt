@@ -5,7 +5,7 @@ ghost use Rattle.std.specs.Prelude.{◌≡◌, get_or, set};
 pub fn at_or<T: Copy, const N: usize>(members: [T; N], place: u8, default: T) -> T
     ensures { result ≡ get_or members place default }
 {
-    members.get(place as usize).copied().unwrap_or(default)
+    members.get(usize::from(place)).copied().unwrap_or(default)
 }
 
 // The array with another member at a place; as it was where there is none.
@@ -14,8 +14,9 @@ pub fn put_at<T: Copy, const N: usize>(members: [T; N], place: u8, member: T) ->
 {
     // not by `get_mut`: tried, and after it nothing is known of the other members
     let mut changed = members;
-    if (place as usize) < N {
-        changed[place as usize] = member;
+    let place = usize::from(place);
+    if place < N {
+        changed[place] = member;
     }
     changed
 }

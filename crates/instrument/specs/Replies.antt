@@ -1,7 +1,7 @@
 -- What a box sends of its instrument (01, "Readings, switching, streaming" and "Settings"; 02, W-201).
-use Rattle.std.specs.Prelude.{ℕ, ◌≡◌, List, [], ◌∷◌, ◌++◌, map, Bool, false, get_or, take, ⊤}
+use Rattle.std.specs.Prelude.{ℕ, List, [], ◌∷◌, ◌++◌, map, Bool, false, get_or, take, ⊤}
 use Prim.Native.Char.{code}
-use denote.Ref.{MutBor}
+use Rattle.std.specs.Borrow.{MutBor}
 use Rattle.text.specs.Text.{ascii}
 use Rattle.text.specs.Writing.{Wrote}
 use Rattle.text.specs.declared.writer.Writer.{Writer}

@@ -16,7 +16,7 @@ pub struct Instrument {
     pub settings: Settings,
     pub saved: Settings,
     pub readings: [Reading; 2],
-    // whether each switching function is on
+    // whether each of the four is on, beside `settings.switching`: a saved set has no status, so it is no field of theirs
     pub switches: [bool; 4],
 }
 

@@ -33,10 +33,12 @@ impl Instrument {
         let present = set.is_within(model);
         set = self.saved;
         let kept = set.is_within(model);
-        let first = reading_is_within(model, 0, self.readings[0]);
-        let second = reading_is_within(model, 1, self.readings[1]);
+        let read = self
+            .readings
+            .iter()
+            .enumerate()
+            .all(|(k, r)| reading_is_within(model, k, *r));
         let switched = switches_are_within(model, self.settings.switching, self.switches);
-        (self.serial <= Instrument::MOST_SERIAL)
-            & ((present & kept) & ((first & second) & switched))
+        self.serial <= Instrument::MOST_SERIAL && present && kept && read && switched
     }
 }

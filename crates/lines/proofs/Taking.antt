@@ -1,4 +1,4 @@
--- A field by its place in the line: the field that starts at a and ends at a comma, and what is left behind it.
+-- What `head_field` and `beyond` are, said of places: the field from a to the next comma, at e, and the line behind that comma.
 use Rattle.std.specs.Prelude.{Some}
 use Prim.Native.Nat.{ℕ, suc, ◌+◌, ◌-◌, ◌≤◌, ◌<◌}
 use mathlib.Core.Path.{◌≡◌, sym, ap, ◌∙◌}
@@ -23,7 +23,7 @@ module _ (k : Kind) (s : List ℕ) (a : ℕ) (h : a ≤ length s) (e : ℕ) (f :
       let n : a + suc (length (word (drop a s))) ≡ a + length (word (drop a s)) + 1 = omega arith in
       sym (drop-drop (suc (length (word (drop a s)))) a s ∙ ap (λ (n : ℕ). drop n s) n)
 
-  -- the field, what is left of the line, and that the next place lies within it
+  -- the field, what is left of the line, and that the place behind the comma lies within it
   pub taken_next : e < length s → (f ≡ head_field (Some k) (drop a s)) × (drop (e + 1) s ≡ beyond (Some k) (drop a s)) × (e + 1 ≤ length s)
   taken_next l =
       (q ∙ ap (read k) (ap (λ (n : ℕ). part a n s) p ∙ field_is), ap (λ (n : ℕ). drop (n + 1) s) p ∙ next_is, omega arith)

@@ -64,7 +64,8 @@ fn read(kind: Kind, s: &[u8]) -> Field
     }
 }
 
-// The field at the head of s, if there is one to be read, and what is left behind it; else nothing held or passed by.
+// The field at the head of s, if one is to be read, and what is left behind it; else a cell 0, and nothing passed by.
+// A cell 0 and no None: in `row_of`, of which `judged_fields` makes the row, a cell 0 stands where there is no field.
 pub(crate) fn take_field(kind: Option<Kind>, s: &[u8]) -> (Field, &[u8])
     ensures field { result.0 ≡ head_field kind s.now }
     ensures rest { result.1.now ≡ beyond kind s.now }

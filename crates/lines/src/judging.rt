@@ -18,6 +18,7 @@ fn judge_fields(model: Model, m: Mnemonic, s: &[u8]) -> Verdict
     if count_fields(s) != f.count {
         return Err(Fault::Syntax);
     }
+    // by place and no `map` over the places: each field begins behind the one before
     let (a, behind) = take_field(f.kind(0), s);
     let (b, behind) = take_field(f.kind(1), behind);
     let (c, _) = take_field(f.kind(2), behind);

@@ -37,6 +37,7 @@ fn write_more(out: &mut Writer, kind: Option<Kind>, cell: Threshold)
 }
 
 // The cells of a setting, commas between.
+// Model and settings are no struct: one model has two sets of settings, those that hold and those that are saved.
 #[tactic(auto, using(text::proofs::Pages::puts_append, crate::proofs::Written::setting_none, crate::proofs::Written::setting_written))]
 fn write_setting(out: &mut Writer, model: Model, s: Settings, x: Setting)
     ensures { Wrote out.old out.new (setting_text model s x) }
@@ -45,6 +46,7 @@ fn write_setting(out: &mut Writer, model: Model, s: Settings, x: Setting)
         .entry(Mnemonic::OfReplying(Replying::OfSetting(x)))
         .fields;
     let r = s.row(x);
+    // by place and no loop: the cells of a row have names, and the first has no comma before it
     if let Some(kind) = f.kind(0) {
         write_cell(out, kind, r.first);
         write_more(out, f.kind(1), r.second);

@@ -5,10 +5,10 @@ use mathlib.Core.Bool.{Bool, true, false, cond, and-eq-true_iff}
 use mathlib.Core.Logic.{⊎_elim}
 use mathlib.Mathlib.Data.Bool.Basic.{dichotomy}
 use native.Mathlib.Omega.{arith}
-use borrow.Author.Tests.{ltb-true, leb-true, leb-false, le-leb, le-ltb}
+use borrow.Author.Tests.{ltb-true, leb-true, leb-false, le-leb}
 use lib.Dec.{T, leb, ltb}
-use lib.IntN.{ℤ, pos, negsuc, neg_ℤ, nat_abs, sub_ℕ, ◌+ℤ◌, ◌-ℤ◌, +ℤ_idl}
-use lib.Signed.{mag, lt_z}
+use lib.IntN.{ℤ, pos, negsuc, neg_ℤ, nat_abs, sub_ℕ, ◌+ℤ◌, ◌-ℤ◌}
+use lib.Signed.{mag}
 use mir.Syntax.{w32}
 use mir.Val.{SFits}
 use Rattle.ground.proofs.Cases.{below}
@@ -21,9 +21,6 @@ mag_le (negsuc n) = omega arith
 -- a number of magnitude below 2^31 fits
 pub small : (z : ℤ) → nat_abs z < 2 ^ 31 → SFits w32 z
 small z h = record { sfits = omega (arith, mag_le z) }
-
-pub zero_minus : (z : ℤ) → pos 0 -ℤ z ≡ neg_ℤ z
-zero_minus z = +ℤ_idl (neg_ℤ z)
 
 pub abs_neg : (z : ℤ) → nat_abs (neg_ℤ z) ≡ nat_abs z
 abs_neg (pos zero) = refl
@@ -62,8 +59,3 @@ pub near_between : (k : ℕ) (e : ℤ) → nat_abs e ≤ suc k → between (negs
 near_between k e h =
     ⊎_elim (λ (f : between (negsuc k) (pos (suc k)) e ≡ false). absurd (omega (arith, between_far k e f)))
     (λ (t : between (negsuc k) (pos (suc k)) e ≡ true). t) (dichotomy (between (negsuc k) (pos (suc k)) e))
-
--- what depends on the sign alone is told by the test for a number below zero
-pub by_sign : {A : Type 0} (f : ℤ → A) (a b : A) → ((n : ℕ) → f (negsuc n) ≡ a) → ((n : ℕ) → f (pos n) ≡ b) → (z : ℤ) → f z ≡ cond (lt_z z (pos 0)) a b
-by_sign f a b h k (pos n) = rw (le-ltb n 0 (omega arith)) (k n)
-by_sign f a b h k (negsuc n) = h n

@@ -73,6 +73,7 @@ impl Threshold {
         ensures { result ≡ multiplied_by self ratio }
     {
         if self.is_within() && ratio.is_usable() {
+            // no `From`, which takes every threshold: a mantissa of 2^31 or more, ruled out here, has no `i32`
             let value = Value {
                 mantissa: self.mantissa as i32,
                 exponent: self.exponent,

@@ -39,6 +39,7 @@ fn factor_between(old: u32, new: u32) -> Ratio
 
 impl Threshold {
     // The threshold of the old unit as one of the new: one rounding from the exact product, never through hPa.
+    // Two numbers and no pair as a struct: the promise, `re_expressed`, is of two, and nothing keeps them together.
     pub fn re_expressed(self, old: u32, new: u32) -> Threshold
         ensures { result ≡ re_expressed old new self }
     {

@@ -10,7 +10,7 @@ use crate::threshold::Threshold;
 use std::cmp::Ordering;
 
 // d.dddd times a power of ten, of either sign; zero has exponent 0.
-// Not one generic type with `Threshold`: no method holds of both, so a parameter for the sign would only be named.
+// Not one generic type with `Threshold`: shared are two field names and a test of digits; limits and sign are not.
 #[derive(Clone, Copy, PartialEq, Eq, Debug)]
 pub struct Value {
     pub mantissa: i32,
@@ -42,7 +42,7 @@ impl Value {
 
     pub const MOST_EXPONENT: i32 = 99;
 
-    const ZERO: Value = Value {
+    pub const ZERO: Value = Value {
         mantissa: 0,
         exponent: 0,
     };
@@ -69,6 +69,7 @@ impl Value {
     }
 
     // How it lies to the threshold; none where it is no number, or the threshold not within its stops.
+    // By hand and no `partial_cmp`: `PartialOrd` has one type on both sides, and a threshold is no value.
     #[tactic(auto, using(crate::proofs::Order::ways_out))]
     fn order(self, t: Threshold) -> Option<Ordering>
         ensures below { is_some_and is_lt result ≡ is_below self t }

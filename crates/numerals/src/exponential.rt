@@ -9,7 +9,7 @@ use crate::runs::{digits, value};
 use crate::whole::number;
 use numbers::threshold::Threshold;
 
-// Why a part of a line is no threshold: by its form, or by its value.
+// Why a part of a line is no threshold: by its form, or by its value. No `Display`: a host is told the error word alone.
 #[derive(Clone, Copy, Debug, PartialEq, Eq)]
 pub enum ThresholdFault {
     Malformed,

@@ -3,6 +3,7 @@ ghost use Rattle.std.specs.Prelude.{◌≡◌, ◌≤◌, ◌+◌, ◌-◌, ◌*
 ghost use Rattle.numerals.specs.Runs.{part, lead, rest, value};
 
 // The bytes of s from start up to, not including, end, as far as s has them: for any two places, so with no slice.
+// No code calls it: it states what the readers promised of two places.
 pub fn part(s: &[u8], start: usize, end: usize) -> &[u8]
     ensures { result.now ≡ part start end s.now }
 {

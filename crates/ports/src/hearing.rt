@@ -1,5 +1,6 @@
 // One byte of the host: what it does to the port, and what it makes the box do.
-ghost use Rattle.std.specs.Prelude.{◌≡◌};
+ghost use Rattle.std.specs.Prelude.{◌≡◌, cond, None};
+ghost use Rattle.ports.specs.Line.{is_empty};
 ghost use Rattle.ports.specs.Hearing.{kind_of, fresh_port, with_mark, selected, accepted, refused, concluded, cr_heard, dropped, replied, asked, quiet, by_kind, heard};
 ghost use Rattle.ports.specs.Walk.{repeats, settled};
 ghost use Rattle.ports.specs.declared.Event.TheVariants.{Reply};
@@ -12,7 +13,7 @@ use settings::mnemonic::{Mnemonic, Query, Replying};
 use settings::model::Model;
 use text::control::{CR, ENQ, ETX, LEAST_CHARACTER, LF, MOST_CHARACTER, SPACE};
 
-// A kind and then a match, where one match would do: `kind_of` and `by_kind` are the definitions that a reader believes.
+// A kind and then a match, where one match would do: the definitions `kind_of` and `by_kind` give it and take it.
 #[derive(Clone, Copy)]
 enum ByteKind {
     Cr,
@@ -123,15 +124,19 @@ impl Port {
         }
     }
 
-    // The mnemonic whose reply an ENQ sends: the selected one on an empty line, else ERR's, the error word.
+    // The mnemonic that answers an ENQ: the selected one, on an empty line.
+    fn chosen(self) -> Option<Replying>
+        ensures { result ≡ cond (is_empty self) self.selection None }
+    {
+        self.selection.filter(|_| self.is_empty())
+    }
+
+    // The mnemonic whose reply an ENQ sends: the chosen one, else ERR's, the error word.
     #[tactic(auto, unfolding(crate::specs::Hearing::asked))]
     pub fn enquiry(self) -> Replying
         ensures { Reply result self.error ≡ (asked self).event }
     {
-        match (self.is_empty(), self.selection) {
-            (true, Some(a)) => a,
-            _ => Replying::OfQuery(Query::Err),
-        }
+        self.chosen().unwrap_or(Replying::OfQuery(Query::Err))
     }
 
     // After the reply of a selection: sent through ERR, the word is gone.
@@ -153,9 +158,9 @@ impl Port {
     pub fn enquired(self) -> Port
         ensures { result ≡ (asked self).port }
     {
-        match (self.is_empty(), self.selection) {
-            (true, Some(a)) => self.replied(a),
-            _ => self.dropped(Word::none()),
+        match self.chosen() {
+            Some(a) => self.replied(a),
+            None => self.dropped(Word::none()),
         }
     }
 
@@ -163,10 +168,7 @@ impl Port {
     pub fn repeats(self) -> bool
         ensures { result ≡ repeats self }
     {
-        match (self.is_empty(), self.selection) {
-            (true, Some(a)) => !a.is_err(),
-            _ => false,
-        }
+        self.chosen().is_some_and(|a| !a.is_err())
     }
 
     fn asked(self) -> Heard

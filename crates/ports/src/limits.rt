@@ -9,13 +9,11 @@ use crate::stream::INTERVALS;
 use settings::model::Model;
 use text::control::{LEAST_CHARACTER, MOST_CHARACTER};
 
-// Whether all places hold bytes from low to high; no `all`, whose early end keeps the compiler from testing many at once.
+// Whether all places hold bytes from low to high.
 fn all_within(places: &[u8], low: u8, high: u8) -> bool
     ensures { result ≡ every (in_range low high) places.now }
 {
-    places
-        .iter()
-        .fold(true, |all, b| all & ((low <= *b) & (*b <= high)))
+    places.iter().all(|b| (low..=high).contains(b))
 }
 
 impl Port {

@@ -9,7 +9,8 @@ use settings::rows::Row;
 // the intervals of the modes of COM
 pub(crate) const INTERVALS: [u32; 3] = [1, 10, 600];
 
-// The ticks from line to line in a mode; a number that is no mode streams nothing.
+// The ticks from line to line in a mode.
+// A number and no enum of modes: the definition `interval_of` promises that a number that is no mode streams nothing.
 pub(crate) fn interval_of(mode: u32) -> u32
     ensures { result ≡ interval_of mode }
 {

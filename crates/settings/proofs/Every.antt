@@ -7,7 +7,7 @@ use borrow.Author.Tests.{leb-true}
 use lib.Dec.{leb}
 use Rattle.ground.specs.Members.{every, Each}
 use Rattle.ground.proofs.Members.{every_each}
-use Rattle.settings.specs.Models.{channels, first_following}
+use Rattle.settings.specs.Models.{channels}
 use Rattle.settings.specs.declared.model.Model.{Model}
 use Rattle.settings.specs.declared.model.Model.TheVariants.{Tpg361, Tpg362, Tpg262}
 
@@ -25,11 +25,3 @@ tested p e = every_model (λ m. p m ≡ true) (every_each p models e)
 pub channels_few : (model : Model) → channels model ≤ 2
 unfolding every
 channels_few model = leb-true (channels model) 2 (tested (λ m. leb (channels m) 2) refl model)
-
-pub first_few : (model : Model) → first_following model ≤ 2
-unfolding every
-first_few model = leb-true (first_following model) 2 (tested (λ m. leb (first_following m) 2) refl model)
-
-pub channels_some : (model : Model) → 1 ≤ channels model
-unfolding every
-channels_some model = leb-true 1 (channels model) (tested (λ m. leb 1 (channels m)) refl model)

@@ -14,7 +14,7 @@ impl Model {
         if self.is_older() { 9 } else { 8 }
     }
 
-    // The name of a kind; a number that is no kind has none.
+    // The name of a kind by its number, which is no enum: `kind_name` promises no name for a number that is no kind.
     fn kind_name(self, kind: u8) -> &'static [u8]
         ensures { result.now ≡ kind_name self kind }
     {

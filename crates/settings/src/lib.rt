@@ -11,22 +11,23 @@ pub mod rows;
 pub mod table;
 
 // One switching function.
-#[derive(Clone, Copy)]
+#[derive(Clone, Copy, Debug, PartialEq, Eq)]
 pub struct Switching {
+    // a number and no enum: `within`, `starts_on` and `follows` speak of any number
     pub assignment: u32,
     pub lower: Threshold,
     pub upper: Threshold,
 }
 
-// A number, or one for each channel.
-#[derive(Clone, Copy)]
+// A number, or one for each channel; no array like `factors`: none of these is put by its channel, as CFx puts those.
+#[derive(Clone, Copy, Debug, PartialEq, Eq)]
 pub struct Pair {
     pub first: u32,
     pub second: u32,
 }
 
 // The settings of a box.
-#[derive(Clone, Copy)]
+#[derive(Clone, Copy, Debug, PartialEq, Eq)]
 pub struct Settings {
     // a number and no enum: `within` speaks of settings with one that is no unit
     pub unit: u32,

@@ -100,7 +100,7 @@ impl Model {
         0 < self.setting_entry(x).fields.count
     }
 
-    // The setting on a line of the sheet; past the last line it is the first.
+    // The setting on a line of the sheet; past the last line it is the first and not `None`: the promise `sheet_at`.
     pub fn sheet_at(self, i: usize) -> Setting
         ensures { result ≡ sheet_at self i }
     {
@@ -168,7 +168,7 @@ impl Replying {
         matches!(self, Replying::OfQuery(Query::Err))
     }
 
-    // The channel that it is about, from 0 on; 0 where it is about none.
+    // The channel it is about, from 0 on; 0 where it is about none, as in `channel_of`: every model has channel 0.
     fn channel(self) -> u8
         ensures { result ≡ channel_of self }
     {

@@ -12,8 +12,8 @@ pub enum Model {
     Tpg262,
 }
 
-// A number that names no model.
-#[derive(Clone, Copy, Debug)]
+// A number that names no model. No `Display`: what is told of it is answer 2.
+#[derive(Clone, Copy, Debug, PartialEq, Eq)]
 pub struct UnknownModel;
 
 impl TryFrom<u32> for Model {
@@ -32,7 +32,7 @@ impl TryFrom<u32> for Model {
 }
 
 impl Model {
-    // of the assignments that follow no channel, the one that is always on
+    // of the assignments that follow no channel, the one that is always on; no enum: `starts_on` speaks of any number
     pub const ALWAYS_ON: u32 = 1;
 
     // Whether it is the older unit, which has a column of its own in every table.
@@ -69,7 +69,7 @@ impl Model {
         out.append(self.names());
     }
 
-    // The mode of COM that a box streams in from power-on.
+    // The mode of COM that a box streams in from power-on; a number and no enum: `interval_of` speaks of any number.
     pub fn power_on_mode(self) -> u32
         ensures { result ≡ power_on_mode self }
     {

@@ -10,7 +10,8 @@ use ground::places::{at_or, put_at};
 use numbers::threshold::Threshold;
 
 // Up to three cells; a whole number or a factor is a cell with exponent 0.
-#[derive(Clone, Copy)]
+// No array: the definitions name the cells first, second and third, and what each is depends on the row.
+#[derive(Clone, Copy, Debug, PartialEq, Eq)]
 pub struct Row {
     pub first: Threshold,
     pub second: Threshold,
@@ -56,25 +57,49 @@ const NO_PAIR: Pair = Pair {
     second: 0,
 };
 
-impl Row {
-    // The numbers in the first two cells.
-    pub(crate) fn pair(self) -> Pair
-        ensures { result ≡ pair_of self }
-    {
+// The numbers in the first two cells.
+impl From<Row> for Pair {
+    ghost from_gives = { λ r p. p ≡ pair_of r };
+
+    fn from(r: Row) -> Pair {
         Pair {
-            first: self.first.mantissa,
-            second: self.second.mantissa,
+            first: r.first.mantissa,
+            second: r.second.mantissa,
         }
     }
+}
 
-    // A switching function from its cells.
-    fn switching(self) -> Switching
-        ensures { result ≡ switching_of self }
-    {
+// A pair's cells.
+impl From<Pair> for Row {
+    ghost from_gives = { λ p r. r ≡ row_of_pair p };
+
+    fn from(p: Pair) -> Row {
+        pair_row(p.first, p.second)
+    }
+}
+
+// A switching function from its cells.
+impl From<Row> for Switching {
+    ghost from_gives = { λ r w. w ≡ switching_of r };
+
+    fn from(r: Row) -> Switching {
         Switching {
-            assignment: self.first.mantissa,
-            lower: self.second,
-            upper: self.third,
+            assignment: r.first.mantissa,
+            lower: r.second,
+            upper: r.third,
+        }
+    }
+}
+
+// Its cells.
+impl From<Switching> for Row {
+    ghost from_gives = { λ w r. r ≡ cells_of w };
+
+    fn from(w: Switching) -> Row {
+        Row {
+            first: plain(w.assignment),
+            second: w.lower,
+            third: w.upper,
         }
     }
 }
@@ -98,16 +123,6 @@ fn mixed(n: usize, a: Row, b: Row) -> Row
 }
 
 impl Switching {
-    fn cells(self) -> Row
-        ensures { result ≡ cells_of self }
-    {
-        Row {
-            first: plain(self.assignment),
-            second: self.lower,
-            third: self.upper,
-        }
-    }
-
     // The function with its thresholds in another unit.
     fn in_unit(self, old: u32, new: u32) -> Switching
         ensures { result ≡ switching_in old new self }
@@ -120,14 +135,6 @@ impl Switching {
     }
 }
 
-impl Pair {
-    fn cells(self) -> Row
-        ensures { result ≡ row_of_pair self }
-    {
-        pair_row(self.first, self.second)
-    }
-}
-
 impl Settings {
     // The cells of a setting.
     pub fn row(self, x: Setting) -> Row
@@ -136,8 +143,8 @@ impl Settings {
         match x {
             Setting::Uni => pair_row(self.unit, 0),
             Setting::Cal => pair_row(self.factors[0], self.factors[1]),
-            Setting::Sp(k) => at_or(self.switching, k, NO_SWITCHING).cells(),
-            Setting::Stored(k) => at_or(self.stored, k, NO_PAIR).cells(),
+            Setting::Sp(k) => at_or(self.switching, k, NO_SWITCHING).into(),
+            Setting::Stored(k) => at_or(self.stored, k, NO_PAIR).into(),
         }
     }
 
@@ -163,11 +170,11 @@ impl Settings {
                 ..self
             },
             Setting::Sp(k) => Settings {
-                switching: put_at(self.switching, k, r.switching()),
+                switching: put_at(self.switching, k, r.into()),
                 ..self
             },
             Setting::Stored(k) => Settings {
-                stored: put_at(self.stored, k, r.pair()),
+                stored: put_at(self.stored, k, r.into()),
                 ..self
             },
         }

@@ -13,14 +13,14 @@ use numbers::threshold::Threshold;
 use std::array;
 
 // From least to most; above it, up to paired, stands what needs a second channel that the model lacks.
-#[derive(Clone, Copy)]
+#[derive(Clone, Copy, Debug, PartialEq, Eq)]
 pub struct Limits {
     pub least: u32,
     pub most: u32,
     pub paired: u32,
 }
 
-#[derive(Clone, Copy)]
+#[derive(Clone, Copy, Debug, PartialEq, Eq)]
 pub enum Kind {
     OfWhole(Limits),
     // in thousandths
@@ -29,7 +29,7 @@ pub enum Kind {
 }
 
 // How many fields, up to three; the kind of the first, and that of the others.
-#[derive(Clone, Copy)]
+#[derive(Clone, Copy, Debug, PartialEq, Eq)]
 pub struct Fields {
     pub count: usize,
     pub first: Kind,
@@ -50,7 +50,7 @@ impl Fields {
 }
 
 // What a model has of a row of numbers: how many fields, of which kind, and the defaults of two cells.
-#[derive(Clone, Copy)]
+#[derive(Clone, Copy, Debug, PartialEq, Eq)]
 pub struct Column {
     pub count: usize,
     pub kind: Kind,
@@ -59,7 +59,7 @@ pub struct Column {
 }
 
 // A row of the table.
-#[derive(Clone, Copy)]
+#[derive(Clone, Copy, Debug, PartialEq, Eq)]
 pub struct Entry {
     pub name: [u8; 3],
     pub fields: Fields,
@@ -128,8 +128,9 @@ impl Model {
         })
     }
 
-    // One function for each column of the table and no shared maker: `Table` has a definition of each name.
-    // One whole number: least, most, default.
+    // Least, most, default in the paper's order; no plainer: a shared maker is the literal with four numbers in a row.
+
+    // One whole number.
     fn single(self, least: u32, most: u32, default: u32) -> Column
         ensures { result ≡ single least most default self }
     {
@@ -352,7 +353,7 @@ impl Model {
     fn preset(self, x: Setting) -> Pair
         ensures { result ≡ pair_of ((setting_entry x).default self) }
     {
-        self.setting_entry(x).default.pair()
+        self.setting_entry(x).default.into()
     }
 
     // What a fresh box is set to.

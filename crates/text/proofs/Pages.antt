@@ -9,10 +9,10 @@ use native.Mathlib.Nat.{add-zero}
 use native.Mathlib.Numerals.{add-one}
 use borrow.Author.Tests.{lt-ltb, le-ltb}
 use lib.Dec.{ltb}
-use lib.ListN.{length, get_or, set, take, drop, length-set, length-take, take-append-drop, drop_of_length-le}
+use lib.ListN.{length, set, take, drop, length-set, length-take, take-append-drop, drop_of_length-le}
 use borrow.Rule.Slice.PartMut.{put_mid}
 use Rattle.std.proofs.Common.{append_assoc}
-use lib.Seq.{drop-cons, sets, sets-eq, length-sets, drop-drop}
+use lib.Seq.{sets, sets-eq, length-sets, drop-drop}
 use Rattle.ground.proofs.Cases.{below}
 use Rattle.text.specs.Page.{Page, page, put, puts}
 use Rattle.text.specs.Writing.{page_of, Wrote}

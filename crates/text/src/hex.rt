@@ -5,6 +5,7 @@ ghost use Rattle.text.specs.Hex.{value_of};
 pub const DIGITS: [u8; 16] = *b"0123456789ABCDEF";
 
 // The value of a digit; none for any other character.
+#[tactic(auto, unfolding(crate::specs::Hex::value_of))]
 pub fn value_of(digit: u8) -> Option<u8>
     ensures { result ≡ value_of digit }
 {

@@ -7,5 +7,6 @@ ghost use Rattle.text.specs.Spans.{until};
 pub fn end_of(s: &[u8], from: usize, mark: u8) -> usize
     ensures { result ≡ from + length (until mark (drop from s.now)) }
 {
-    from + s.iter().skip(from).take_while(|&&b| b != mark).count()
+    let rest = s.get(from..).unwrap_or(&[]);
+    from + rest.iter().take_while(|&&b| b != mark).count()
 }

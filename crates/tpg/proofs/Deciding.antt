@@ -1,10 +1,9 @@
 -- How a call with a lent output is decided, in the order of the paper's numbers, and what is then in the output.
 use Prim.Native.Nat.{ℕ, ◌-◌, ◌≤◌}
 use mathlib.Core.Path.{◌≡◌, refl, sym, ap, ◌∙◌}
-use mathlib.Core.List.{List, [], ◌∷◌, append-nil}
+use mathlib.Core.List.{[], ◌∷◌, append-nil}
 use mathlib.Core.Bool.{Bool, true, false, cond, and-true, and-eq-true_iff}
 use borrow.Author.Tests.{leb-true, le-leb}
-use lib.ListN.{length}
 use lib.Dec.{leb}
 use Rattle.gauges.specs.Readings.{within_limits}
 use Rattle.gauges.specs.declared.reading.Reading.{Reading}
@@ -12,10 +11,9 @@ use Rattle.settings.specs.Kinds.{gauge_kinds}
 use Rattle.instrument.specs.Limits.{gauge_within}
 use Rattle.tpg.specs.Answers.{answer, handed, least_output}
 use Rattle.tpg.specs.States.{state_within}
-use Rattle.tpg.specs.Steps.{sent, after, said, taken, over}
+use Rattle.tpg.specs.Steps.{sent, after, said, taken}
 use Rattle.tpg.specs.Calls.{admits, turned_away, roomed, roomed_bytes, byte_taken, byte_call, byte_bytes, host_text, hosted, host_call, host_bytes, is_channel, with_reading, reading_call}
 use Rattle.tpg.specs.declared.State.{State}
-use Rattle.tpg.specs.declared.answers.Outcome.{Outcome}
 
 -- room there is where a call is admitted
 pub roomy : (s : State) (least room : ℕ) → admits s least room ≡ true → least ≤ room
@@ -26,15 +24,6 @@ roomy s least room e = leb-true least room ((and-eq-true_iff (state_within s) (l
 pub without_output : (s : State) → admits s 0 0 ≡ state_within s
 unfolding admits
 without_output s = and-true (state_within s)
-
-module _ (s : State) (least : ℕ) (o : Outcome) (bytes out : List ℕ) where
-  pub admitted : admits s least (length out) ≡ true → (o ≡ roomed s least (length out) o) × (over bytes out ≡ over (roomed_bytes s least (length out) bytes) out)
-  unfolding roomed roomed_bytes
-  admitted e = rw e (refl, refl)
-
-  pub turned : admits s least (length out) ≡ false → (turned_away s ≡ roomed s least (length out) o) × (out ≡ over (roomed_bytes s least (length out) bytes) out)
-  unfolding roomed roomed_bytes over
-  turned e = rw e (refl, refl)
 
 -- one byte alone is taken and answered where it is admitted, as the call that takes several does it
 module _ (s : State) (b room : ℕ) where

@@ -20,6 +20,7 @@ pub enum Answer {
 
 impl Answer {
     // Its number in the paper's table.
+    // Public, so no From; by `as`, so that the numbers are said once, by the order of the cases.
     pub fn number(self) -> u8
         ensures { result ≡ number self }
     {
@@ -63,6 +64,7 @@ impl State {
     }
 
     // Whether a call that asks for a least output is admitted with that room.
+    #[tactic(auto, unfolding(crate::specs::Calls::admits))]
     pub(crate) fn admits(self, least: usize, room: usize) -> bool
         ensures { result ≡ admits self least room }
     {
@@ -70,6 +72,7 @@ impl State {
     }
 
     // The refusal of such a call: a broken state is told before a short output.
+    #[tactic(auto, unfolding(crate::specs::Calls::turned_away))]
     pub(crate) fn turned_away(self) -> Outcome
         ensures { result ≡ turned_away self }
     {

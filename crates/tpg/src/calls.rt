@@ -15,9 +15,6 @@ use numbers::value::Value;
 use settings::model::Model;
 use text::writer::Writer;
 
-// What a call without an output asks for.
-const NO_OUTPUT: usize = 0;
-
 // A fresh box, and an answer.
 fn made(model: Model, serial: u32, answer: Answer) -> Outcome
     ensures { result ≡ handed answer (fresh_box model serial) }
@@ -44,14 +41,15 @@ impl State {
     }
 
     // A reading of a channel, from 1 on.
+    // Its number in two parts and no Value: the function is public, and a frame has them so.
     pub fn reading(self, channel: u8, kind: u8, status: u8, mantissa: i32, exponent: i32) -> Outcome
         ensures { result ≡ reading_call self channel (record { kind = kind; status = status; value = record { mantissa = mantissa; exponent = exponent } }) }
     {
-        if !self.admits(NO_OUTPUT, 0) {
+        if !self.is_within() {
             return self.with_answer(Answer::BrokenState);
         }
         let model = self.instrument.model;
-        if !(1..=model.channels()).contains(&(channel as usize)) {
+        if !(1..=model.channels()).contains(&usize::from(channel)) {
             return self.with_answer(Answer::NoChannel);
         }
         let r = Reading {
@@ -79,7 +77,7 @@ impl State {
         requires { least_output * count ≤ length out.old }
         ensures { (result ≡ all_counted self count) × (out.new ≡ over (ticks_text self count) out.old) }
     {
-        // fixed memory, and made once: a line at each tick would cost its conversions each time
+        // fixed memory (no heap); the line is made once, since no tick changes it
         let mut line = [0u8; State::LEAST_OUTPUT];
         let n = self.stream_line(&mut line);
         let mut port = self.port;
@@ -95,10 +93,11 @@ impl State {
     }
 
     // Ticks of 100 ms, as many as count says.
+    #[tactic(auto, using(crate::proofs::Deciding::roomy), unfolding(crate::specs::Calls::roomed, crate::specs::Calls::roomed_bytes, crate::specs::Steps::over))]
     pub fn ticks(self, count: u8, out: &mut [u8]) -> Outcome
         ensures { (result ≡ ticks_call self count (length out.old)) × (out.new ≡ over (ticks_bytes self count (length out.old)) out.old) }
     {
-        if self.admits(State::LEAST_OUTPUT * (count as usize), out.len()) {
+        if self.admits(State::LEAST_OUTPUT * usize::from(count), out.len()) {
             self.advance(count, out)
         } else {
             self.turned_away()
@@ -113,10 +112,11 @@ impl State {
     }
 
     // Off and on again: the box starts with its saved set.
+    #[tactic(auto, unfolding(crate::specs::Calls::cycle_call))]
     pub fn power_cycle(self) -> Outcome
         ensures { result ≡ cycle_call self }
     {
-        if !self.admits(NO_OUTPUT, 0) {
+        if !self.is_within() {
             return self.with_answer(Answer::BrokenState);
         }
         State::start(

@@ -29,7 +29,7 @@ impl State {
         let mut port = self.port;
         let mut taken: usize = 0;
         let mut sent = Writer::new(out, 0);
-        // by hand: a turn takes one byte or a whole run
+        // by hand: a turn takes a byte or a run; no match over a rest: `typed` and `taken` name places in all of the input
         while taken < input.len() {
             // nothing sent for a byte is longer (`event_length`): with this room no reply is cut
             if sent.free() < State::LEAST_OUTPUT {
@@ -71,6 +71,7 @@ impl State {
     }
 
     // Bytes from the host.
+    #[tactic(auto, unfolding(crate::specs::Calls::roomed, crate::specs::Calls::roomed_bytes, crate::specs::Steps::over))]
     pub fn host(self, input: &[u8], out: &mut [u8]) -> Outcome
         ensures { (result ≡ host_call self input.now (length out.old)) × (out.new ≡ over (host_bytes self input.now (length out.old)) out.old) }
     {

@@ -24,6 +24,7 @@ impl State {
     pub const LEAST_OUTPUT: usize = 64;
 
     // Whether a box can be in it.
+    #[tactic(auto, unfolding(crate::specs::States::state_within))]
     pub fn is_within(self) -> bool
         ensures { result ≡ state_within self }
     {

@@ -11,13 +11,11 @@ use Rattle.frames.proofs.frame.read.Goals.{then-not-is_empty-via-then-not-is_emp
 
 pub returns-then-not-is_empty : goal.returns-then-not-is_empty
 returns-then-not-is_empty c =
-    let line = c.args.line.now in (
-      omega arith,
-      elim c.then-not-is_empty.branch [
-        | then-not-is_empty-via-then-not-is_empty w ↦ not_read line (odd_not_hex line (let x : length line % 2 ≡ 1 = grind (arith, nat_tests) in x))
-        | then-not-is_empty-via-else-not-is_empty+then-pairs-gt-LONGEST_FRAME w ↦ too_long line (omega (arith, c.as_chunks.ensures.front_len, w.if-pairs-gt-LONGEST_FRAME.true))
-      ],
-    )
+    let line = c.args.line.now in
+    elim c.then-not-is_empty.branch [
+      | then-not-is_empty-via-then-not-is_empty w ↦ not_read line (odd_not_hex line (let x : length line % 2 ≡ 1 = grind (arith, nat_tests) in x))
+      | then-not-is_empty-via-else-not-is_empty+then-pairs-gt-LONGEST_FRAME w ↦ too_long line (omega (arith, c.as_chunks.ensures.front_len, w.if-pairs-gt-LONGEST_FRAME.true))
+    ]
 
 pub overflow_mul-bytes : goal.overflow_mul-bytes
 overflow_mul-bytes c = omega (arith, value_below _ _ (sym c.value_of.ensures ∙ c.in_ok-value_of.was))
@@ -33,19 +31,13 @@ loop-i-preserved c =
 
 pub returns-in_err-value_of : goal.returns-in_err-value_of
 returns-in_err-value_of c =
-    rw c.from_residual.ensures (
-      omega arith,
-      spoilt_high c.loop-i.invariant (omega (arith, c.loop-i-test.true, c.as_chunks.ensures.front_len)) _ c.as_chunks.ensures.front
-          (sym c.value_of.ensures ∙ c.in_err-value_of.was),
-    )
+    rw c.from_residual.ensures (spoilt_high c.loop-i.invariant (omega (arith, c.loop-i-test.true, c.as_chunks.ensures.front_len)) _ c.as_chunks.ensures.front
+    (sym c.value_of.ensures ∙ c.in_err-value_of.was))
 
 pub returns-in_err-bytes : goal.returns-in_err-bytes
 returns-in_err-bytes c =
-    rw c.from_residual-in_err-bytes.ensures (
-      omega arith,
-      spoilt_low c.loop-i.invariant (omega (arith, c.loop-i-test.true, c.as_chunks.ensures.front_len)) _ c.as_chunks.ensures.front
-          (sym c.value_of-in-loop-i.ensures ∙ c.in_err-bytes.was),
-    )
+    rw c.from_residual-in_err-bytes.ensures (spoilt_low c.loop-i.invariant (omega (arith, c.loop-i-test.true, c.as_chunks.ensures.front_len)) _ c.as_chunks.ensures.front
+    (sym c.value_of-in-loop-i.ensures ∙ c.in_err-bytes.was))
 
 pub returns : goal.returns
 returns c =

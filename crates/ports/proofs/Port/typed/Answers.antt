@@ -1,12 +1,9 @@
 -- The run is typed byte by byte on the port as its first byte settles it (`settled_first`, `gathered_all`).
 use Prim.Native.Nat.{ℕ, ◌-◌, ◌<◌}
-use Rattle.std.proofs.Common.{◌≡◌, ◌+◌, ◌≤◌, length, drop, List, [], ◌∷◌, Option, Some, None, refl, sym, ap, ◌∙◌, arith, rules, tests}
-use Rattle.std.specs.Option.{MatchOption, unwrap_or}
-use Rattle.std.specs.List.{slice_range}
-use mathlib.Core.Logic.{◌⊎◌, inl, inr}
-use denote.Bor.{Bor}
-use lib.ListN.{length-drop, drop_of_length-le}
-use lib.Seq.{take_all}
+use Rattle.std.proofs.Common.{◌≡◌, ◌+◌, ◌≤◌, length, drop, List, [], ◌∷◌, refl, ap, ◌∙◌, arith, rules, tests}
+use Rattle.std.specs.Option.{unwrap_or}
+use lib.ListN.{length-drop}
+use Rattle.text.proofs.Marks.{rest_is}
 use Rattle.ports.specs.Walk.{typing, typed_all}
 use Rattle.ports.specs.declared.Port.{Port}
 use Rattle.ports.specs.declared.typing.Typed.{Typed}
@@ -14,14 +11,6 @@ use Rattle.ports.proofs.Characters.{typed_count, settled_first, passed, gathered
 use Rattle.ports.proofs.Port.typed.Goals.{then-b-ne-SPACE, else-b-ne-SPACE}
 use Rattle.ports.proofs.Port.typed.Goals.{After-typed_run-run}
 use Rattle.ports.proofs.Port.typed.Goals as goal
-
--- nothing stands behind the end
-rest_is : (s : List ℕ) (from : ℕ) (r : Option (Bor (List ℕ))) (none : Bor (List ℕ)) → none.now ≡ []
-    → MatchOption r ((length s < from) ⊎ (length s < length s)) (λ x. (from ≤ length s) × (length s ≤ length s) × (x.now ≡ slice_range s from (length s)) × (length x.now + from ≡ length s))
-    → (unwrap_or r none).now ≡ drop from s
-rest_is s from None none e (inl h) = e ∙ sym (drop_of_length-le s {i = from} (omega arith))
-rest_is s from None none e (inr h) = absurd (omega arith)
-rest_is s from (Some x) none e h = h.2 ∙ take_all (length s - from) (drop from s) (omega (arith, length-drop from s))
 
 run_is : (c : After-typed_run-run) → c.typed_run-run.result.now ≡ typing (drop c.args.from c.args.input.now)
 run_is c =

@@ -1,11 +1,10 @@
 -- `digits::zeros`: as many as there are zeros in front of the last digit (`bare_zeros`).
-use mathlib.Core.Path.{◌≡◌, ◌∙◌}
-use native.Mathlib.Omega.{arith}
+use mathlib.Core.Path.{◌∙◌}
+use Prim.Native.Nat.{ℕ}
 use borrow.Author.Rules.{rules}
 use borrow.Author.Tests.{tests}
 use lib.Dec.{eqb}
-use lib.ListN.{take, length}
-use Rattle.std.specs.List.{prefix_len}
+use lib.ListN.{take}
 use Rattle.std.proofs.lemmas.Iterator.{YieldsList-from_slice}
 use Rattle.std.proofs.lemmas.Iterator.Consumers.{count_from_yields_List}
 use Rattle.std.proofs.lemmas.Iterator.Search.{YieldsList-from_take_while}
@@ -15,9 +14,8 @@ use Rattle.text.proofs.digits.zeros.Goals as goal
 
 pub returns : goal.returns
 returns c =
-    let d = c.args.d in
-    let n : c.count.result ≡ prefix_len (λ b. eqb b 48) (take 9 d) =
-    count_from_yields_List c.take_while.result _ c.count.ensures.ran
-    (YieldsList-from_take_while _ (λ b. eqb b 48) (YieldsList-from_slice (take 9 d) cc) c.take_while.ensures.closure c.take_while.ensures.done (λ x b q k. search (rules, tests)))
-    ∙ length-prefix_len (λ b. eqb b 48) (take 9 d) in
-    (search rules, rw n (bare_zeros d 9 (search rules)))
+    let s = take 9 c.args.d in
+    let zero = λ (b : ℕ). eqb b 48 in
+    let n = count_from_yields_List c.take_while.result c.count.result c.count.ensures.ran
+    (YieldsList-from_take_while _ zero (YieldsList-from_slice s cc) c.take_while.ensures.closure c.take_while.ensures.done (λ x b q k. search (rules, tests))) in
+    (search rules, rw (n ∙ length-prefix_len zero s) (bare_zeros c.args.d 9 (search rules)))

@@ -10,7 +10,7 @@ use Rattle.text.specs.Writing.{page_of}
 use Rattle.instrument.specs.Replies.{stream_text}
 use Rattle.instrument.proofs.Lengths.{stream_length}
 use Rattle.tpg.proofs.Laying.{copied, fronted}
-use Rattle.tpg.proofs.Ticking.{start, due, idle, ended, length_kept}
+use Rattle.tpg.proofs.Ticking.{start, due, idle, ended}
 use Rattle.tpg.proofs.State.advance.Goals as goal
 use Rattle.tpg.proofs.State.advance.Goals.{then-t, else-t}
 

@@ -46,6 +46,13 @@ class Chains(unittest.TestCase):
         code = "movslq (%rdx,%rax,4),%rcx\nadd    %rdx,%rcx\nmov    0x8(%rsp),%esi\njmp    *%rcx"
         self.assertEqual(stack.deepest(read(f=code), "f"), (8, ["f"], []))
 
+    def test_jump_table_whose_place_is_put_into_two_registers(self):
+        code = "lea    -0x8(%rip),%r9        # c78 <t>\n{}movslq (%r9,%rbx,4),%r9\nlea    -0x18(%rip),%rsi        # {} <t>\nadd    %rsi,%r9\njmp    *%r9"
+        self.assertEqual(stack.deepest(read(f=code.format("", "c78")), "f"), (8, ["f"], []))
+        for other, second in ("", "c7c"), ("mov    %r12d,%r9d\n", "c78"), ("xor    %r9d,%r9d\n", "c78"), ("call   1000 <memcpy@plt>\n", "c78"):
+            with self.assertRaisesRegex(stack.Unbounded, "leads through a pointer"):
+                stack.deepest(read(f=code.format(other, second)), "f")
+
 
 class Unbounded(unittest.TestCase):
     def refused(self, why, **functions):

@@ -1,12 +1,12 @@
 -- Bytes at the start of an output turned into their digits in place, from the last one on.
-use Prim.Native.Nat.{ℕ, suc, ◌+◌, ◌*◌, ◌≤◌, ◌<◌}
+use Prim.Native.Nat.{ℕ, suc, ◌+◌, ◌*◌, ◌≤◌, ◌<◌, ◌/◌, ◌%◌}
 use mathlib.Core.Path.{◌≡◌, refl, sym, ap, ◌∙◌}
 use mathlib.Core.List.{List, [], ◌∷◌, ◌++◌}
 use native.Mathlib.Omega.{arith}
-use lib.ListN.{length, get_or, set, take, drop, length-append, length-drop, drop_of_length-le}
-use borrow.Rule.Slice.PartMut.{put_mid}
-use lib.Seq.{length-take-le, take-take, take-append-le, get_or-take, drop-cons, drop-drop, drop_at, set_at, append_snoc}
-use Rattle.text.specs.Hex.{hex_pair, hex}
+use lib.ListN.{length, get_or, set, take, drop, length-set, length-append, drop_of_length-le}
+use lib.Seq.{length-take-le, take-take, take-set-le, get_or-take, drop-cons, set_at, append_snoc}
+use Rattle.ground.proofs.Sequences.{set_two}
+use Rattle.text.specs.Hex.{digit_of, hex_pair, hex}
 use Rattle.text.specs.Control.{lf}
 use Rattle.text.proofs.HexDigits.{hex_length}
 use Rattle.tpg.specs.Steps.{over}
@@ -25,22 +25,21 @@ start out₀ count room =
     let none : drop count (take count out₀) ≡ [] = drop_of_length-le (take count out₀) {i = count} (omega (arith, length-take-le count out₀ (omega arith))) in
     record { low = omega arith; room = room; same = refl; front = refl; back = rw none }
 
--- a byte's two digits laid down
+-- a byte's set-two digits laid down
 abbrev pub put : List ℕ → ℕ → ℕ → List ℕ
-put out at byte = put_mid at 2 out (hex_pair byte)
+put out at byte = set (set out at (digit_of (byte / 16))) (at + 1) (digit_of (byte % 16))
 
-module _ (out : List ℕ) (at byte : ℕ) (h : at + 1 < length out) where
-  first : length (take at out) ≡ at
-  first = length-take-le at out (omega (arith, h))
+pair_length : (out : List ℕ) (at byte : ℕ) → length (put out at byte) ≡ length out
+pair_length out at byte = simp length-set
 
-  pair_length : length (put out at byte) ≡ length out
-  pair_length = length-append (take at out) (hex_pair byte ++ drop 2 (drop at out)) ∙ omega (arith, h, first, length-drop 2 (drop at out), length-drop at out)
+pair_front : (out : List ℕ) (at byte k : ℕ) → k ≤ at → take k (put out at byte) ≡ take k out
+pair_front out at byte k h = take-set-le k (set out at (digit_of (byte / 16))) (at + 1) (digit_of (byte % 16)) (omega arith) ∙ take-set-le k out at (digit_of (byte / 16)) h
 
-  pair_front : (k : ℕ) → k ≤ at → take k (put out at byte) ≡ take k out
-  pair_front k low = take-append-le k (take at out) (hex_pair byte ++ drop 2 (drop at out)) (omega (arith, first, low)) ∙ take-take k at out low
-
-  pair_back : drop at (put out at byte) ≡ hex_pair byte ++ drop (at + 2) out
-  pair_back = drop_at (take at out) (hex_pair byte ++ drop 2 (drop at out)) at first ∙ ap (λ (l : List ℕ). hex_pair byte ++ l) (drop-drop 2 at out)
+pair_back : (out : List ℕ) (at byte : ℕ) → at + 1 < length out → drop at (put out at byte) ≡ hex_pair byte ++ drop (at + 2) out
+pair_back out at byte h =
+    let one : at + 1 ≡ suc at = omega arith in
+    let more : at + 2 ≡ suc (suc at) = omega arith in
+    rw (one, more) (set_two out at (digit_of (byte / 16)) (digit_of (byte % 16)) (omega arith))
 
 module _ (out₀ out : List ℕ) (count : ℕ) where
   abbrev bytes : List ℕ
@@ -56,15 +55,14 @@ module _ (out₀ out : List ℕ) (count : ℕ) where
       sym (get_or-take (suc k) out k 0 (omega arith)) ∙ ap (λ (l : List ℕ). get_or l k 0) s.front ∙ get_or-take (suc k) out₀ k 0 (omega arith)
       ∙ sym (get_or-take count out₀ k 0 s.low) in
       let place : 2 + 2 * k + 2 ≡ 2 + 2 * suc k = omega arith in
-      let room : 2 + 2 * k + 1 < length out = omega (arith, s.same, s.room, s.low) in
       let held : k < length bytes = omega (arith, length-take-le count out₀ (omega (arith, s.room)), s.low) in
       record {
         low = omega (arith, s.low);
         room = s.room;
-        same = pair_length out (2 + 2 * k) (get_or out k 0) room ∙ s.same;
-        front = pair_front out (2 + 2 * k) (get_or out k 0) room k (omega arith) ∙ sym (take-take k (suc k) out (omega arith)) ∙ ap (take k) s.front
+        same = pair_length out (2 + 2 * k) (get_or out k 0) ∙ s.same;
+        front = pair_front out (2 + 2 * k) (get_or out k 0) k (omega arith) ∙ sym (take-take k (suc k) out (omega arith)) ∙ ap (take k) s.front
             ∙ take-take k (suc k) out₀ (omega arith);
-        back = pair_back out (2 + 2 * k) (get_or out k 0) room ∙ ap (λ (n : ℕ). hex_pair (get_or out k 0) ++ drop n out) place
+        back = pair_back out (2 + 2 * k) (get_or out k 0) (omega (arith, s.same, s.room, s.low)) ∙ ap (λ (n : ℕ). hex_pair (get_or out k 0) ++ drop n out) place
             ∙ ap (λ (l : List ℕ). hex_pair (get_or out k 0) ++ l) s.back ∙ ap (λ (b : ℕ). hex_pair b ++ (hex (drop (suc k) bytes) ++ rest)) byte
             ∙ sym (ap (λ (l : List ℕ). hex l ++ rest) (drop-cons bytes k 0 held));
       }

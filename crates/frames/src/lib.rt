@@ -39,6 +39,8 @@ pub(crate) fn handed(number: u8, state: State, written: usize) -> FrameOutcome
 }
 
 // One input line, without its end, answered with one output line.
+// A function of its own in the program too: `tools/stack` reads what lies below it.
+#[inline(never)]
 pub fn answer(state: State, line: &[u8], out: &mut [u8]) -> FrameOutcome
     ensures { (result ≡ answer_call state line.now (length out.old)) × (out.new ≡ over (answer_line state line.now (length out.old)) out.old) }
 {

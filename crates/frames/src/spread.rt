@@ -23,10 +23,14 @@ pub(crate) fn spread(out: &mut [u8], number: u8, count: usize) -> usize
     ensures { (result ≡ 2 + 2 * count + 1) × (out.new ≡ over (hex (number ∷ take count out.old) ++ lf ∷ []) out.old) }
 {
     for i in (0..count).rev() {
-        let digits = pair(out[i]);
-        out[2 + 2 * i..4 + 2 * i].copy_from_slice(&digits);
+        // each by itself: put there as one slice they cost nearly twice the instructions
+        let [high, low] = pair(out[i]);
+        out[2 + 2 * i] = high;
+        out[3 + 2 * i] = low;
     }
-    out[..2].copy_from_slice(&pair(number));
+    let [high, low] = pair(number);
+    out[0] = high;
+    out[1] = low;
     let end = 2 + 2 * count;
     out[end] = LF;
     end + 1

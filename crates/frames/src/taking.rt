@@ -54,6 +54,7 @@ fn take_fresh(state: State, byte: u8) -> FrameOutcome
 }
 
 // The first byte says what is wanted, and how many bytes go with it.
+#[inline(always)]
 fn take(state: State, frame: &[u8], out: &mut [u8]) -> FrameOutcome
     requires { most_sent ≤ length out.old }
     ensures { (result ≡ frame_outcome (framed state frame.now)) × (out.new ≡ over (framed state frame.now).bytes out.old) }
@@ -83,6 +84,8 @@ fn take(state: State, frame: &[u8], out: &mut [u8]) -> FrameOutcome
 }
 
 // A line's frame taken; a line that is none, or too long for one, is answered as a frame of other form.
+// Put into its caller, as `take` is: the stack then holds the states of a call once.
+#[inline(always)]
 pub(crate) fn take_line(state: State, line: &[u8], out: &mut [u8]) -> FrameOutcome
     requires { most_sent ≤ length out.old }
     ensures { let r = line_reply state line.now in (result ≡ frame_outcome r) × (out.new ≡ over r.bytes out.old) }

@@ -107,8 +107,8 @@ impl Instrument {
 
     // The reply of a mnemonic; that of ERR is the error word handed in.
     #[tactic(auto, unfolding(crate::specs::Replies::reply_text))]
-    pub fn reply(self, out: &mut Writer, a: Replying, error: Word)
-        ensures { Wrote out.old out.new (reply_text self error a) }
+    pub fn reply(&self, out: &mut Writer, a: Replying, error: Word)
+        ensures { Wrote out.old out.new (reply_text self.now error a) }
     {
         match a {
             Replying::OfSetting(x) => setting_reply(out, self.model, self.settings, x),
@@ -119,8 +119,8 @@ impl Instrument {
 
     // A line of the stream.
     #[tactic(auto, using(text::proofs::Pages::puts_append), unfolding(crate::specs::Replies::stream_text))]
-    pub fn stream_line(self, out: &mut Writer)
-        ensures { Wrote out.old out.new (stream_text self) }
+    pub fn stream_line(&self, out: &mut Writer)
+        ensures { Wrote out.old out.new (stream_text self.now) }
     {
         self.write_readings(out);
         end_line(out);

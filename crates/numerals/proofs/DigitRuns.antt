@@ -4,7 +4,7 @@ use Rattle.std.specs.List.{position_or_len}
 use Rattle.std.specs.Option.{unwrap_or}
 use Rattle.std.specs.Prelude.{Option, Some, None}
 use Prim.Native.Nat.{ℕ, suc, ◌+◌, ◌-◌, ◌*◌, ◌^◌, ◌≤◌, ◌<◌}
-use mathlib.Core.Path.{◌≡◌, refl, ap}
+use mathlib.Core.Path.{◌≡◌, refl, sym, ap}
 use mathlib.Core.List.{List, [], ◌∷◌, ◌++◌}
 use mathlib.Core.Bool.{Bool, true, false, cond, not, ◌&&◌}
 use native.Mathlib.Omega.{arith}
@@ -15,7 +15,7 @@ use lib.ListN.{length, get_or, drop, take, drop_of_length-le, length-drop}
 use lib.Seq.{drop-cons, take_all}
 use lib.Dec.{leb, ltb, eqb}
 use lib.Pow.{pow-add}
-use Rattle.numerals.specs.Runs.{is_digit, lead, rest, head_is, value}
+use Rattle.numerals.specs.Runs.{part, is_digit, lead, rest, head_is, value}
 
 -- what stands behind the first byte, and whether that byte is c
 pub behind_first : (s : List ℕ) → take (length s - 1) (drop 1 s) ≡ drop 1 s
@@ -38,6 +38,10 @@ pub lead_take : (s : List ℕ) → lead s ≡ take (length (lead s)) s
 unfolding lead
 lead_take [] = refl
 lead_take (b ∷ s) = lead_take_by (is_digit b) b s (lead_take s)
+
+-- so the bytes up to where it ends are the run
+pub lead_part : (s : List ℕ) (n : ℕ) → n ≡ length (lead s) → part 0 n s ≡ lead s
+lead_part s n h = let e : n - 0 ≡ length (lead s) = omega (arith, h) in rw e (sym (lead_take s))
 
 rest_drop_by : (t : Bool) (b : ℕ) (s : List ℕ) → rest s ≡ drop (length (lead s)) s
     → cond t (rest s) (b ∷ s) ≡ drop (length (cond t (b ∷ lead s) [])) (b ∷ s)

@@ -65,7 +65,7 @@ fn compose(whole: &[u8], fraction: &[u8], s: &[u8]) -> Result<Threshold, Thresho
 }
 
 // Digits with or without a point.
-#[tactic(auto, using(crate::proofs::DigitRuns::heads), unfolding(crate::specs::Exponential::fraction, crate::specs::Exponential::after_fraction))]
+#[tactic(auto, using(crate::proofs::DigitRuns::heads, crate::proofs::DigitRuns::lead_part), unfolding(crate::specs::Exponential::fraction, crate::specs::Exponential::after_fraction))]
 fn unsigned(s: &[u8]) -> Result<Threshold, ThresholdFault>
     ensures { result ≡ composed (lead s.now) (fraction (rest s.now)) (after_fraction (rest s.now)) }
 {

@@ -103,6 +103,7 @@ impl Port {
         }
     }
 
+    #[inline(always)]
     fn cr_heard(self, model: Model) -> Heard
         ensures { result ≡ cr_heard model self }
     {
@@ -190,6 +191,8 @@ impl Port {
         }
     }
 
+    // Put into its caller: the port is not handed over and back, a copy each, for every byte.
+    #[inline(always)]
     #[tactic(auto, unfolding(crate::specs::Hearing::by_kind))]
     fn by_kind(self, model: Model, kind: ByteKind, b: u8) -> Heard
         ensures { result ≡ by_kind model kind self b }

@@ -49,7 +49,7 @@ module _ (model : Model) where
 abbrev Unlike : TableRow → Type 0
 Unlike e = false ≡ same e.name (ascii "ERR")
 
-setting_not_err : (x : Setting) → false ≡ is_err (OfSetting x)
+pub setting_not_err : (x : Setting) → false ≡ is_err (OfSetting x)
 unfolding is_err same switching_entry stored_entry
 setting_not_err Uni = refl
 setting_not_err Cal = refl

@@ -7,6 +7,7 @@ use Prim.Native.Nat.{ℕ, suc, ◌+◌, ◌<◌}
 use mathlib.Core.Path.{◌≡◌, refl, sym, ap, ◌∙◌}
 use mathlib.Core.List.{List, [], ◌∷◌}
 use mathlib.Core.Bool.{Bool, true, false, cond, ◌&&◌, and-false, and-eq-true_iff}
+use native.Mathlib.Omega.{arith}
 use native.Mathlib.Numerals.{add-one}
 use lib.ListN.{length, get_or, drop}
 use lib.Seq.{drop-cons}
@@ -40,6 +41,14 @@ same_pointwise [] [] = refl
 same_pointwise [] (y ∷ ys) = refl
 same_pointwise (x ∷ xs) [] = refl
 same_pointwise (x ∷ xs) (y ∷ ys) = rw (same_pointwise xs ys)
+
+-- a name of three letters is those letters
+pub three_letters : (xs : List ℕ) → length xs ≡ 3 → get_or xs 0 0 ∷ get_or xs 1 0 ∷ get_or xs 2 0 ∷ [] ≡ xs
+three_letters [] h = absurd (omega (arith, h))
+three_letters (a ∷ []) h = absurd (omega (arith, h))
+three_letters (a ∷ b ∷ []) h = absurd (omega (arith, h))
+three_letters (a ∷ b ∷ c ∷ []) h = refl
+three_letters (a ∷ b ∷ c ∷ d ∷ xs) h = absurd (omega (arith, h))
 
 -- the first of a list that passes two tests is the first of those that pass the second
 pub find_found : (w : List ℕ) (p : Mnemonic → Bool) (ms : List Mnemonic) → find (λ m. same (name m) w && p m) ms ≡ found w (those p ms)

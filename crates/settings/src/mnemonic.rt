@@ -124,6 +124,7 @@ impl Model {
     }
 
     // Whether a word is the name of a mnemonic that the model knows.
+    #[tactic(auto, using(crate::proofs::Names::same_pointwise, crate::proofs::Names::three_letters))]
     fn calls(self, m: Mnemonic, word: [u8; 3]) -> bool
         ensures { result ≡ same (name m) word && knows self m }
     {

@@ -7,7 +7,7 @@ use native.Mathlib.Omega.{arith}
 use borrow.Author.Tests.{eqb-true}
 use lib.ListN.{length, get_or}
 use lib.Dec.{eqb}
-use Rattle.std.specs.Prelude.{Option, Some, unwrap_or}
+use Rattle.std.specs.Prelude.{Option, Some, is_some, unwrap_or}
 use Rattle.ground.specs.Ranges.{in_range}
 use Rattle.ground.proofs.Tables.{alike, everywhere}
 use Rattle.ground.proofs.Cases.{never, cond_cases, in_range_lem}
@@ -18,24 +18,26 @@ pub value_back : (n : ℕ) → n < 16 → value_of (digit_of n) ≡ Some n
 unfolding digit_of value_of
 value_back = alike (λ (k : ℕ). value_of (digit_of k)) Some 16 refl
 
-pub digit_back : (c : ℕ) → c < 256 → is_hex_digit c ≡ true → digit_of (unwrap_or (value_of c) 0) ≡ c
+pub digit_back : (c : ℕ) → c < 256 → is_hex_digit c ≡ true → digit_of (unwrap_or (value_of c) 16) ≡ c
 unfolding digit_of value_of
 digit_back c h e =
-    let test : cond (is_hex_digit c) (eqb (digit_of (unwrap_or (value_of c) 0)) c) true ≡ true = everywhere (λ (k : ℕ). cond (is_hex_digit k) (eqb (digit_of (unwrap_or (value_of k) 0)) k) true) 256 refl c h in
-    eqb-true (digit_of (unwrap_or (value_of c) 0)) c (rw e at test)
+    let test : cond (is_hex_digit c) (eqb (digit_of (unwrap_or (value_of c) 16)) c) true ≡ true = everywhere (λ (k : ℕ). cond (is_hex_digit k) (eqb (digit_of (unwrap_or (value_of k) 16)) k) true) 256 refl c h in
+    eqb-true (digit_of (unwrap_or (value_of c) 16)) c (rw e at test)
 
 pub value_digit : (n : ℕ) → n < 16 → is_hex_digit (digit_of n) ≡ true
 value_digit n h = rw (value_back n h)
 
--- no digit has a value past 15
-value_small : (c : ℕ) → unwrap_or (value_of c) 0 < 16
+-- a digit has a value below 16
+value_small : (c : ℕ) → is_hex_digit c ≡ true → unwrap_or (value_of c) 16 < 16
 unfolding value_of
 value_small c =
-    cond_cases (λ (v : Option ℕ). unwrap_or v 0 < 16) (in_range 48 57 c) _ _ (λ e. omega (arith, (in_range_lem 48 57 c e).1))
-    (λ _. cond_cases (λ (v : Option ℕ). unwrap_or v 0 < 16) (in_range 65 70 c) _ _ (λ e. omega (arith, (in_range_lem 65 70 c e).1)) (λ _. omega arith))
+    cond_cases (λ (v : Option ℕ). is_some v ≡ true → unwrap_or v 16 < 16) (in_range 48 57 c) _ _ (λ e _. omega (arith, (in_range_lem 48 57 c e).1))
+    (λ _. cond_cases (λ (v : Option ℕ). is_some v ≡ true → unwrap_or v 16 < 16) (in_range 65 70 c) _ _ (λ e _. omega (arith, (in_range_lem 65 70 c e).1)) (λ _ d. never (cc)))
 
 pub value_below : (c v : ℕ) → value_of c ≡ Some v → v < 16
-value_below c v e = rw e at (value_small c)
+value_below c v e =
+    let digit : is_hex_digit c ≡ true = rw e in
+    rw e at (value_small c digit)
 
 -- a byte that two digits stand for is one
 pub unhex_small : (l : List ℕ) → is_hex l ≡ true → (i : ℕ) → get_or (unhex l) i 0 ≤ 255
@@ -43,7 +45,10 @@ unfolding is_hex unhex
 unhex_small [] e zero = omega arith
 unhex_small [] e (suc i) = omega arith
 unhex_small (a ∷ []) e i = never (cc)
-unhex_small (a ∷ b ∷ l) e zero = omega (arith, value_small a, value_small b)
+unhex_small (a ∷ b ∷ l) e zero =
+    let both = (and-eq-true_iff (is_hex_digit a && is_hex_digit b) (is_hex l)).0 e in
+    let each = (and-eq-true_iff (is_hex_digit a) (is_hex_digit b)).0 both.0 in
+    omega (arith, value_small a each.0, value_small b each.1)
 unhex_small (a ∷ b ∷ l) e (suc i) = unhex_small l ((and-eq-true_iff (is_hex_digit a && is_hex_digit b) (is_hex l)).0 e).1 i
 
 -- bytes written are read back as they were
@@ -65,8 +70,8 @@ line_back (a ∷ []) small e = never (cc)
 line_back (a ∷ b ∷ l) small e =
     let both = (and-eq-true_iff (is_hex_digit a && is_hex_digit b) (is_hex l)).0 e in
     let each = (and-eq-true_iff (is_hex_digit a) (is_hex_digit b)).0 both.0 in
-    let high : byte_of a b / 16 ≡ unwrap_or (value_of a) 0 = omega (arith, value_small b) in
-    let low : byte_of a b % 16 ≡ unwrap_or (value_of b) 0 = omega (arith, value_small b) in
+    let high : byte_of a b / 16 ≡ unwrap_or (value_of a) 16 = omega (arith, value_small b each.1) in
+    let low : byte_of a b % 16 ≡ unwrap_or (value_of b) 16 = omega (arith, value_small b each.1) in
     rw (high, low, digit_back a (small 0) each.0, digit_back b (small 1) each.1, line_back l (λ (i : ℕ). small (suc (suc i))) both.1)
 
 -- a line of hexadecimal has two digits for each byte

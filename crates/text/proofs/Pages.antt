@@ -50,6 +50,19 @@ puts_room (b ∷ bs) out at room =
     let e : suc at + length bs ≡ at + length (b ∷ bs) = omega arith in
     rw (put_more out at b (omega arith), add-one at, ← e) (puts_room bs (set out at b) (suc at) (simp length-set (omega arith)))
 
+-- so said of a part of the output that is written over
+pub laid : (bs out : List ℕ) (at : ℕ) → at + length bs ≤ length out → sets out at bs ≡ put_mid at (length bs) out bs
+laid bs out at room = sets-eq bs out at room ∙ rw (drop-drop (length bs) at out, append_assoc)
+
+pub puts_whole : (bs out : List ℕ) (at : ℕ) → at + length bs ≤ length out → puts (page out at) bs ≡ page (put_mid at (length bs) out bs) (at + length bs)
+puts_whole bs out at room = puts_room bs out at room ∙ ap (λ l. page l (at + length bs)) (laid bs out at room)
+
+-- the same, where the part is told by its two ends
+pub puts_between : (bs out : List ℕ) (at to : ℕ) → to ≡ at + length bs → to ≤ length out → puts (page out at) bs ≡ page (put_mid at (to - at) out bs) to
+puts_between bs out at to e room =
+    let n : to - at ≡ length bs = omega (arith, e) in
+    rw (n, e) (puts_whole bs out at (omega (arith, e, room)))
+
 -- ---- past the end nothing changes
 
 pub puts_full : (bs out : List ℕ) (at : ℕ) → length out ≤ at → puts (page out at) bs ≡ page out at
@@ -66,7 +79,7 @@ puts_fit bs out at n h e =
     let rest : puts (page (sets out at (take n bs)) (at + n)) (drop n bs) ≡ page (sets out at (take n bs)) (at + n) =
     ⊎_elim (λ (l : n < length bs). puts_full (drop n bs) (sets out at (take n bs)) (at + n) (omega (arith, length-sets out at (take n bs))))
     (λ (g : length bs ≤ n). ap (puts (page (sets out at (take n bs)) (at + n))) (drop_of_length-le bs {i = n} g)) (below n (length bs)) in
-    let form : sets out at (take n bs) ≡ put_mid at n out (take n bs) = sets-eq (take n bs) out at room ∙ rw (part, drop-drop n at out, append_assoc) in
+    let form : sets out at (take n bs) ≡ put_mid at n out (take n bs) = laid (take n bs) out at room ∙ rw part in
     ap (puts (page out at)) (sym (take-append-drop n bs)) ∙ puts_append (page out at) (take n bs) (drop n bs)
     ∙ rw (stored, part) rest ∙ ap (λ l. page l (at + n)) form
 

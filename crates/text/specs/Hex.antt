@@ -34,9 +34,9 @@ is_hex [] = true
 is_hex (a ∷ []) = false
 is_hex (a ∷ b ∷ rest) = (is_hex_digit a && is_hex_digit b) && is_hex rest
 
--- the byte that two digits stand for
+-- the byte that two digits stand for; a character that is no digit counts 16
 abbrev pub byte_of : ℕ → ℕ → ℕ
-byte_of a b = 16 * unwrap_or (value_of a) 0 + unwrap_or (value_of b) 0
+byte_of a b = 16 * unwrap_or (value_of a) 16 + unwrap_or (value_of b) 16
 
 -- the bytes that pairs of digits stand for
 unfoldable pub unhex : List ℕ → List ℕ

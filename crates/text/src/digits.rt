@@ -50,10 +50,14 @@ impl Writer<'_> {
     }
 
     // A number of fixed width, with leading zeros; ten digits at most.
+    // Digit by digit, and put into its callers: each knows the width, and no other digit is made.
+    #[inline(always)]
     pub fn padded(&mut self, n: u32, width: usize)
         ensures { Wrote self.old self.new (padded_text n width) }
     {
-        self.append(&digits_of(n)[10 - width.min(10)..]);
+        for k in (0..width.min(10)).rev() {
+            self.put(digit_at(n, k));
+        }
     }
 
     // A factor of t thousandths.

@@ -46,13 +46,27 @@ impl<'a> Writer<'a> {
     }
 
     // The bytes of s, as far as there is room.
+    // Two ways, put into the caller: a text whose length is known there needs no place in memory to be copied from.
+    #[inline(always)]
+    #[tactic(auto, using(crate::proofs::Pages::puts_between))]
     pub fn append(&mut self, s: &[u8])
         ensures { Wrote self.old self.new s.now }
     {
-        if self.at < self.bytes.len() {
-            let n = s.len().min(self.bytes.len() - self.at);
-            self.bytes[self.at..self.at + n].copy_from_slice(&s[..n]);
-            self.at += n;
+        if self.at < self.bytes.len() && s.len() <= self.bytes.len() - self.at {
+            self.bytes[self.at..self.at + s.len()].copy_from_slice(s);
+            self.at += s.len();
+        } else {
+            self.cut(s);
+        }
+    }
+
+    // As much of s as there is room for.
+    #[inline(always)]
+    fn cut(&mut self, s: &[u8])
+        ensures { Wrote self.old self.new s.now }
+    {
+        for b in s {
+            self.put(*b);
         }
     }
 }

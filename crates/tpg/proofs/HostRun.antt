@@ -8,8 +8,10 @@ use native.Mathlib.Numerals.{add-one}
 use borrow.Author.Tests.{le-leb, lt-leb}
 use lib.ListN.{length, get_or, take, drop, length-append, length-drop, drop_of_length-le}
 use lib.Seq.{take-suc, drop-cons}
-use mathlib.Core.Bool.{true}
-use Rattle.ground.proofs.Cases.{cond_cases}
+use mathlib.Core.Bool.{true, false}
+use Rattle.std.specs.Prelude.{Ok, Err}
+use Rattle.std.specs.Result.{is_ok}
+use Rattle.ground.proofs.Cases.{never, cond_cases}
 use Rattle.text.specs.Page.{page, puts}
 use Rattle.ports.specs.Hearing.{quiet}
 use Rattle.ports.specs.Walk.{is_typed, typing, typed_one, typed_all}
@@ -19,6 +21,8 @@ use Rattle.ports.specs.declared.Heard.{Heard}
 use Rattle.ports.specs.declared.Port.{Port}
 use Rattle.ports.specs.declared.typing.Typed.{Typed}
 use Rattle.ports.proofs.Characters.{typing_more, typed_heard}
+use Rattle.lines.specs.Verdicts.{Verdict}
+use Rattle.instrument.specs.Events.{applied}
 use Rattle.instrument.specs.declared.Instrument.{Instrument}
 use Rattle.tpg.specs.Answers.{done, least_output}
 use Rattle.tpg.specs.Steps.{event_text, acted, hearing, next, sent, after, said, taken, over}
@@ -26,6 +30,11 @@ use Rattle.tpg.specs.Calls.{host_text, hosted}
 use Rattle.tpg.specs.declared.State.{State}
 use Rattle.tpg.proofs.Laying.{laid_at, over_more, over_length, laid_nothing, copied}
 use Rattle.tpg.proofs.Sending.{event_length, sent_length}
+
+-- a refused line leaves the instrument as it was
+pub refused_stays : (i : Instrument) (v : Verdict) → is_ok v ≡ false → i ≡ applied i v
+refused_stays i (Ok order) e = never (cc)
+refused_stays i (Err x) e = refl
 
 pub after_append : (xs ys : List ℕ) (s : State) → after s (xs ++ ys) ≡ after (after s xs) ys
 unfolding after

@@ -34,6 +34,7 @@ impl State {
     }
 
     // A reading that is within its limits, of a channel from 0 on.
+    #[inline(always)]
     fn with_reading(self, channel: u8, r: Reading) -> Outcome
         ensures { result ≡ handed (answer 0) (with_reading self channel r) }
     {
@@ -42,6 +43,8 @@ impl State {
 
     // A reading of a channel, from 1 on.
     // Its number in two parts and no Value: the function is public, and a frame has them so.
+    // Put into its caller: the stack then holds one state less.
+    #[inline(always)]
     pub fn reading(self, channel: u8, kind: u8, status: u8, mantissa: i32, exponent: i32) -> Outcome
         ensures { result ≡ reading_call self channel (record { kind = kind; status = status; value = record { mantissa = mantissa; exponent = exponent } }) }
     {

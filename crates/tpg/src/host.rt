@@ -60,7 +60,10 @@ impl State {
                         Event::Silent => {}
                         Event::Line(v) => {
                             write_line_text(&mut sent, v);
-                            instrument = instrument.applied(v);
+                            // a refused line leaves it as it was, and it is large: no copy for nothing
+                            if v.is_ok() {
+                                instrument = instrument.applied(v);
+                            }
                         }
                         Event::Reply(m, error) => instrument.reply(&mut sent, m, error),
                     }

@@ -13,12 +13,12 @@ loop-i-preserved c =
     let l = c.loop-i in
     let k : ℕ = l.i - 1 in
     let e : l.i ≡ suc k = omega (arith, c.loop-i-test.true) in
-    let two : 4 + 2 * k - (2 + 2 * k) ≡ 2 = omega arith in
-    rw (c.copy_from_slice.ensures.after, c.pair-digits.ensures, two) (step _ _ _ k (subst (λ (i : ℕ). Spread c.args.out.now l.out c.args.count i) e l.invariant))
+    let place : 3 + 2 * k ≡ 2 + 2 * k + 1 = omega arith in
+    rw (c.pair.ensures, place) (step _ _ _ k (subst (λ (i : ℕ). Spread c.args.out.now l.out c.args.count i) e l.invariant))
 
 pub returns : goal.returns
 returns c =
     let l = c.loop-i in
     let a = c.args in
     let e : l.i ≡ 0 = omega (arith, c.loop-i-test.false) in
-    (refl, rw (c.copy_from_slice-2.ensures.after, c.pair.ensures) (ended _ _ _ a.number (subst (λ (i : ℕ). Spread a.out.now l.out a.count i) e l.invariant)))
+    (refl, rw c.pair-2.ensures (ended _ _ _ a.number (subst (λ (i : ℕ). Spread a.out.now l.out a.count i) e l.invariant)))

@@ -9,7 +9,7 @@ use Rattle.ports.specs.Hearing.{asked}
 use Rattle.ports.proofs.Characters.{enq_heard, repeats_stays}
 use Rattle.tpg.specs.Answers.{least_output}
 use Rattle.tpg.specs.Steps.{event_text}
-use Rattle.tpg.proofs.HostRun.{start, silent, answered, typed, farther, ended, length_kept, taken_full, taken_end}
+use Rattle.tpg.proofs.HostRun.{start, silent, answered, refused_stays, typed, farther, ended, length_kept, taken_full, taken_end}
 use Rattle.tpg.proofs.State.run.Goals as goal
 use Rattle.tpg.proofs.State.run.Goals.{then-repeats, else-repeats}
 
@@ -66,16 +66,23 @@ loop-taken-preserved-in-Silent c =
       going = silent c.loop-taken.invariant.going c.byte-heard.result c.loop-taken-test.true free c.byte-heard.ensures c.in-Silent.is;
     }
 
-pub loop-taken-smaller-in-Line : goal.loop-taken-smaller-in-Line
-loop-taken-smaller-in-Line c = omega (arith, c.loop-taken-test.true)
-
-pub loop-taken-preserved-in-Line : goal.loop-taken-preserved-in-Line
+pub loop-taken-preserved-then-is_ok : goal.loop-taken-preserved-then-is_ok
 unfolding event_text
-loop-taken-preserved-in-Line c =
+loop-taken-preserved-then-is_ok c =
     let free = rw c.free.ensures at c.if-free-lt-LEAST_OUTPUT.false in record {
       same_output = c.write_line_text.ensures.same_output ∙ c.loop-taken.invariant.same_output;
       going = answered c.loop-taken.invariant.going c.byte-heard.result c.loop-taken-test.true free c.byte-heard.ensures _ _ _ _
           c.in-Line.is c.applied-instrument.ensures c.write_line_text.ensures.written;
+    }
+
+pub loop-taken-preserved-else-is_ok : goal.loop-taken-preserved-else-is_ok
+unfolding event_text
+loop-taken-preserved-else-is_ok c =
+    let free = rw c.free.ensures at c.if-free-lt-LEAST_OUTPUT.false in
+    let stays = refused_stays c.loop-taken.instrument _ (sym c.is_ok.ensures.value ∙ c.if-is_ok.false) in record {
+      same_output = c.write_line_text.ensures.same_output ∙ c.loop-taken.invariant.same_output;
+      going = answered c.loop-taken.invariant.going c.byte-heard.result c.loop-taken-test.true free c.byte-heard.ensures _ _ _ _
+          c.in-Line.is stays c.write_line_text.ensures.written;
     }
 
 pub loop-taken-smaller : goal.loop-taken-smaller

@@ -25,7 +25,7 @@ start out₀ count room =
     let none : drop count (take count out₀) ≡ [] = drop_of_length-le (take count out₀) {i = count} (omega (arith, length-take-le count out₀ (omega arith))) in
     record { low = omega arith; room = room; same = refl; front = refl; back = rw none }
 
--- a byte's set-two digits laid down
+-- a byte's two digits laid down
 abbrev pub put : List ℕ → ℕ → ℕ → List ℕ
 put out at byte = set (set out at (digit_of (byte / 16))) (at + 1) (digit_of (byte % 16))
 

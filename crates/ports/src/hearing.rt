@@ -191,7 +191,7 @@ impl Port {
         }
     }
 
-    // Put into its caller: the port is not handed over and back, a copy each, for every byte.
+    // Put into its caller, as `cr_heard` is: else the port is copied to it and back for each byte.
     #[inline(always)]
     #[tactic(auto, unfolding(crate::specs::Hearing::by_kind))]
     fn by_kind(self, model: Model, kind: ByteKind, b: u8) -> Heard

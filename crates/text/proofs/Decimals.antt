@@ -1,5 +1,5 @@
 -- The digits of a number, and those without their leading zeros.
-use Prim.Native.Nat.{ℕ, zero, suc, ◌+◌, ◌-◌, ◌≤◌, ◌<◌}
+use Prim.Native.Nat.{ℕ, zero, suc, ◌+◌, ◌-◌, ◌/◌, ◌%◌, ◌^◌, ◌≤◌, ◌<◌}
 use mathlib.Core.Path.{◌≡◌, refl, ap, ◌∙◌}
 use mathlib.Core.List.{List, [], ◌∷◌}
 use mathlib.Core.Bool.{Bool, true, false, cond, ◌&&◌}
@@ -16,6 +16,11 @@ use Rattle.text.specs.Digits.{dig, bare, whole_text}
 pub dig_length : (k n : ℕ) → length (dig k n) ≡ k
 dig_length zero n = refl
 dig_length (suc k) n = ap suc (dig_length k n)
+
+-- the first of k digits, and the others
+pub dig_next : (k n : ℕ) → 0 < k → dig k n ≡ (48 + n / 10 ^ (k - 1) % 10) ∷ dig (k - 1) n
+dig_next zero n h = absurd (omega (arith, h))
+dig_next (suc k) n h = let e : suc k - 1 ≡ k = omega arith in rw e
 
 -- the last k of more digits
 pub dig_last : (j k n : ℕ) → drop j (dig (j + k) n) ≡ dig k n

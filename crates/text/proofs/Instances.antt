@@ -6,7 +6,7 @@ use mathlib.Core.Bool.{true, false}
 use Rattle.std.specs.Prelude.{Some, None}
 use Rattle.text.specs.Digits.{binary, bare, factor_text}
 use Rattle.text.specs.Text.{ascii}
-use Rattle.text.specs.Hex.{value_of}
+use Rattle.text.specs.Hex.{value_of, unhex}
 
 pub digits_are : map binary (true ∷ false ∷ []) ≡ ascii "10"
 digits_are = refl
@@ -24,3 +24,8 @@ factor_thousandths = refl
 pub hex_values : map value_of (ascii "09AF" ++ ascii "/:@Ga") ≡ Some 0 ∷ Some 9 ∷ Some 10 ∷ Some 15 ∷ None ∷ None ∷ None ∷ None ∷ None ∷ []
 unfolding value_of
 hex_values = refl
+
+-- what a pair stands for in which a character is no digit: 16 in its place
+pub no_digit_counts : unhex (ascii "G01g") ≡ 256 ∷ 32 ∷ []
+unfolding unhex value_of
+no_digit_counts = refl

@@ -52,6 +52,7 @@ impl Writer<'_> {
     // A number of fixed width, with leading zeros; ten digits at most.
     // Digit by digit, and put into its callers: each knows the width, and no other digit is made.
     #[inline(always)]
+    #[tactic(auto, using(crate::proofs::Decimals::dig_next))]
     pub fn padded(&mut self, n: u32, width: usize)
         ensures { Wrote self.old self.new (padded_text n width) }
     {

@@ -60,7 +60,7 @@ impl<'a> Writer<'a> {
         }
     }
 
-    // As much of s as there is room for.
+    // As much of s as there is room for; byte by byte, so that here too a short text needs no place in memory.
     #[inline(always)]
     fn cut(&mut self, s: &[u8])
         ensures { Wrote self.old self.new s.now }

@@ -60,7 +60,7 @@ impl State {
                         Event::Silent => {}
                         Event::Line(v) => {
                             write_line_text(&mut sent, v);
-                            // a refused line leaves it as it was, and it is large: no copy for nothing
+                            // a refused line leaves the instrument as it was; it is large, so no copy for nothing
                             if v.is_ok() {
                                 instrument = instrument.applied(v);
                             }
